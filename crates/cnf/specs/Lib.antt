@@ -1,0 +1,4 @@
+pub mod Reduced
+pub mod Numbered
+pub mod Encoded
+pub mod Passed

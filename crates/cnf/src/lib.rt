@@ -1,0 +1,8 @@
+//! From clauses of bounds to the clauses of a file, through the roots of tied literals.
+pub mod cost;
+pub mod encode;
+pub mod literals;
+pub mod numbering;
+pub mod put;
+mod reduce;
+pub mod roots;

@@ -1,0 +1,4 @@
+pub mod Ranging
+pub mod Rows
+pub mod ReadSteps
+pub mod FamilyFacts

@@ -1,0 +1,3 @@
+pub mod Leq
+pub mod Plus
+pub mod Same

@@ -1,0 +1,5 @@
+pub mod Neq
+pub mod Extreme
+pub mod When
+pub mod Any
+pub mod Distinct

@@ -1,0 +1,4 @@
+pub mod Ranging
+pub mod Signs
+pub mod Stretches
+pub mod Visiting

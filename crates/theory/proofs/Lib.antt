@@ -1,0 +1,17 @@
+pub mod Stretches
+pub mod Rooting
+pub mod Reducing
+pub mod Falling
+pub mod Order
+pub mod Bits
+pub mod Reading
+pub mod Models
+pub mod Promising
+pub mod Summing
+pub mod LayingOut
+pub mod Growing
+pub mod KindRows
+pub mod Stepping
+pub mod Settling
+pub mod Filing
+pub mod Examples

@@ -1,0 +1,9 @@
+pub mod Truth
+pub mod Values
+pub mod Rows
+pub mod Jobs
+pub mod Closed
+pub mod Hidden
+pub mod Promise
+pub mod Larger
+pub mod Steps

@@ -1,0 +1,5 @@
+pub mod Growth
+pub mod Moves
+pub mod Relations
+pub mod Roots
+pub mod Views

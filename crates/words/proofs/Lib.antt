@@ -1,0 +1,3 @@
+pub mod Splitting
+pub mod Places
+pub mod Shaping

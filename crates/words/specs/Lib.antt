@@ -1,0 +1,4 @@
+pub mod Split
+pub mod Parts
+pub mod Shapes
+pub mod Tokens
