@@ -89,7 +89,7 @@ pub rooted-there : (rs : List Range) (f : ℕ → Literal) → Named f → (c : 
 rooted-there rs f named [] = refl
 rooted-there rs f named (b ∷ c) =
     and-from (there (total-bits rs) (root-by f (literal rs b))) (all-there (total-bits rs) (rooted rs f c))
-      (root-there f named (total-bits rs) (literal rs b) (literal-there rs b)) (rooted-there rs f named c)
+    (root-there f named (total-bits rs) (literal rs b) (literal-there rs b)) (rooted-there rs f named c)
 
 all-there-push : (n : ℕ) (d : List Literal) (l : Literal) → all-there n d ≡ true → there n l ≡ true → all-there n (d ++ l ∷ []) ≡ true
 all-there-push n [] l h k = and-from (there n l) true k refl
@@ -114,12 +114,13 @@ struck-there n d (l ∷ c) h k =
 -- a clause that is written is the clause with false and repeats struck out
 pub written-is : (c d : List Literal) → written c ≡ d ∷ [] → d ≡ struck c
 written-is c d h = elim (cases-bool (has c True || opposed c)) [
-    | inl e ↦ absurd (none (sym (ap (λ b. cond b [] (struck c ∷ [])) e) ∙ h))
-    | inr e ↦ sym (head (sym (ap (λ b. cond b [] (struck c ∷ [])) e) ∙ h))
-  ]
+  | inl e ↦ absurd (none (sym (ap (λ b. cond b [] (struck c ∷ [])) e) ∙ h))
+  | inr e ↦ sym (head (sym (ap (λ b. cond b [] (struck c ∷ [])) e) ∙ h))
+]
   where
     none : {X : Type 0} {x : X} {xs : List X} → [] ≡ x ∷ xs → ⊥
     none {X} {x} {xs} e = let z : _≡_ {A = ℕ} 0 1 = cc in omega arith
+
     head : {X : Type 0} {x y : X} → x ∷ [] ≡ y ∷ [] → x ≡ y
     head e = cc
 

@@ -15,6 +15,8 @@ use Rattle.order.specs.declared.literal.Literal.the-variants.{False, True}
 use Rattle.order.specs.Literals.{opposite, same}
 use Rattle.order.proofs.Signs.{same-tells, same-from-equal, equal-from-same, opposite-opposite, opposite-apart}
 use Rattle.cnf.specs.Reduced.{has, add, struck, opposed, written}
+use Rattle.cnf.specs.declared.role.Role.the-variants.{Settles, Idle, New}
+use Rattle.cnf.specs.Roles.{Plays}
 use Rattle.cnf.proofs.Reducing.{has-append, has-struck, has-opposed, opposed-has}
 
 -- of the first i literals of c, `kept` is left, and there is no reason to leave c out
@@ -123,6 +125,7 @@ module _ (c : List Literal) (i : ℕ) (kept : List Literal) (d l : Literal) (at 
         where
           first : (a b : Bool) → (a && not b) ≡ true → a ≡ true
           first a b h = grind arith
+
       none : (b : Bool) → has (take i c) (opposite l) ≡ b → b ≡ false
       none false e = refl
       none true e = absurd (both-ways (opposed (take i c)) (k .unopposed) (has-opposed (take i c) l old e))
@@ -141,12 +144,25 @@ module _ (c : List Literal) (i : ℕ) (kept : List Literal) (d l : Literal) (at 
         where
           or-false : (a b : Bool) → a ≡ false → b ≡ false → (a || b) ≡ false
           or-false a b e f = grind arith
+
       old : ((same (opposite l) False ≡ true) × (opposite l ≡ False)) ⊎ ((same (opposite l) False ≡ false) × (opposite l ≡ False → ⊥)) → has (take i c) (opposite l) ≡ false
       old (inl h) = absurd (nt (sym (opposite-opposite l) ∙ ap opposite (h .1)))
       old (inr h) = last (has (take i c) (opposite l)) (same (opposite l) False) (sym (kept-has (opposite l)) ∙ free) (h .0)
         where
           last : (a b : Bool) → (a && not b) ≡ false → b ≡ false → a ≡ false
           last a b e f = grind arith
+
+  -- by the role that l plays
+  pub role-settles : Plays kept l Settles → written c ≡ []
+  role-settles (inl e) = left-true e
+  role-settles (inr h) = left-opposite h
+
+  pub role-idle : Plays kept l Idle → Kept c (i + 1) kept
+  role-idle (inl e) = kept-false e
+  role-idle (inr h) = kept-repeat (h .0) (h .1)
+
+  pub role-new : Plays kept l New → Kept c (i + 1) (kept ++ l ∷ [])
+  role-new h = kept-push (h .0) (h .1) (h .2) (h .3)
 
 -- all of the clause has been gone through
 pub kept-all : (c : List Literal) (i : ℕ) (kept : List Literal) → length c ≤ i → Kept c i kept → written c ≡ kept ∷ []

@@ -38,7 +38,6 @@ numbers-push f ns k x all long e n lt =
       | inr (inr after) ↦ absurd (omega (arith, length-push ns x))
     ]
 
-
 -- one bit more
 pub free-more : (f : ℕ → Literal) (k n : ℕ) (t : Bool) (r : Literal) → n ≡ free-to f k → r ≡ f (k + 1) → t ≡ same r (Bit (k + 1)) → free-to f (k + 1) ≡ cond t 1 0 + n
 free-more f k n t r e er et =

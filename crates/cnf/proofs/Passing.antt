@@ -43,8 +43,8 @@ module _ {R : Type 0} (root : R → ℕ → Literal) where
   ready-same v v′ q q′ e e′ sv sq sn r = record {
     long = ap (λ n. length (vec-items n)) sn ∙ r .long ∙ sym (ap (λ x. total-bits (ranges-of (now x))) sv);
     numbered =
-      subst (λ n. Numbers (root (now q′)) (vec-items n)) (sym sn)
-      (subst (λ x. Numbers (root (now x)) (vec-items (e .numbers))) (sym sq) (r .numbered));
+        subst (λ n. Numbers (root (now q′)) (vec-items n)) (sym sn)
+        (subst (λ x. Numbers (root (now x)) (vec-items (e .numbers))) (sym sq) (r .numbered));
   }
 
   writes-same : (v v′ : RefT Variables) (q q′ : RefT R) → v′ ≡ v → q′ ≡ q → (cs : List (List Bound)) → writes-all v′ q′ cs ≡ writes-all v q cs
@@ -91,10 +91,10 @@ module _ {R : Type 0} (root : R → ℕ → Literal) where
       record {
         lender = rest .lender ∙ one .lender;
         sink =
-          rest .sink
-          ∙ ap (with-clauses k (state (now (u .sink)))) later
-          ∙ ap (λ z. with-clauses k z (writes-all (s .variables) (s .roots) cs)) (one .sink ready (short .0))
-          ∙ sym (with-append k (state (now (s .sink))) (written-clause (ranges-of (now (s .variables))) (root (now (s .roots))) c) (writes-all (s .variables) (s .roots) cs));
+            rest .sink
+            ∙ ap (with-clauses k (state (now (u .sink)))) later
+            ∙ ap (λ z. with-clauses k z (writes-all (s .variables) (s .roots) cs)) (one .sink ready (short .0))
+            ∙ sym (with-append k (state (now (s .sink))) (written-clause (ranges-of (now (s .variables))) (root (now (s .roots))) c) (writes-all (s .variables) (s .roots) cs));
       }
 
 -- an encoder with the same numbers is ready too

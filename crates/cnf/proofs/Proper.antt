@@ -78,9 +78,9 @@ free-all f n d (l ∷ c) h k = free-all f n (add d l) c (added (same-tells l Fal
     added : ((same l False ≡ true) × (l ≡ False)) ⊎ ((same l False ≡ false) × (l ≡ False → ⊥)) → All (free-lit f n) (add d l)
     added (inl e) = subst (λ b. All (free-lit f n) (cond b d (d ++ l ∷ []))) (sym (or-left (same l False) (has d l) (e .0))) h
     added (inr e) = elim (cases-bool (same l False || has d l)) [
-        | inl q ↦ subst (λ b. All (free-lit f n) (cond b d (d ++ l ∷ []))) (sym q) h
-        | inr q ↦ subst (λ b. All (free-lit f n) (cond b d (d ++ l ∷ []))) (sym q) (all-append (free-lit f n) d (l ∷ []) h (root-free f n l (k .0 .0) (k .0 .1) (k .0 .2) (e .1), tt))
-      ]
+      | inl q ↦ subst (λ b. All (free-lit f n) (cond b d (d ++ l ∷ []))) (sym q) h
+      | inr q ↦ subst (λ b. All (free-lit f n) (cond b d (d ++ l ∷ []))) (sym q) (all-append (free-lit f n) d (l ∷ []) h (root-free f n l (k .0 .0) (k .0 .1) (k .0 .2) (e .1), tt))
+    ]
 
 length-folded : (d c : List Literal) → length (folded add d c) ≤ length d + length c
 length-folded d [] = omega arith
@@ -123,25 +123,27 @@ roots-only f n fixed (l ∷ ls) h k =
   where
     parts : (a b : Bool) → (a || b) ≡ false → (a ≡ false) × (b ≡ false)
     parts a b h = grind arith
+
     untrue : same (root-by f l) True ≡ false → root-by f l ≡ True → ⊥
     untrue e t = both (same (root-by f l) True) e (same-from-equal (root-by f l) True t)
       where
         both : (b : Bool) → b ≡ false → b ≡ true → ⊥
         both b e t = grind arith
+
     twice : (x : Literal) → root-by f (root-by f x) ≡ root-by f x
     twice x = root-twice f fixed x
 
 module _ (rs : List Range) (f : ℕ → Literal) (named : Named f) (fixed : Fixed f) where
   clause-proper : (c : List Bound) → length c ≤ 64 → All (λ w. proper-clause (free-to f (total-bits rs)) w ≡ true) (written-clause rs f c)
   clause-proper c short = elim (cases-bool (has (rooted rs f c) True || opposed (rooted rs f c))) [
-      | inl e ↦ subst (λ b. All (λ w. proper-clause (free-to f (total-bits rs)) w ≡ true) (map (map (lit f)) (cond b [] (struck (rooted rs f c) ∷ [])))) (sym e) tt
-      | inr e ↦
-          let k = parts (has (rooted rs f c) True) (opposed (rooted rs f c)) e in
-          let roots = roots-only f (total-bits rs) fixed (literals rs c) (rooted-there rs f named c) (k .0) in
-          let long : length (map (lit f) (struck (rooted rs f c))) ≤ 64 = simp length-map (omega (arith, length-folded [] (rooted rs f c), length-rooted rs f c)) in
-          let ok = and-from (leb (length (map (lit f) (struck (rooted rs f c)))) 64) (proper-lits (free-to f (total-bits rs)) (map (lit f) (struck (rooted rs f c)))) (le-leb (length (map (lit f) (struck (rooted rs f c)))) 64 long) (lits-proper f (total-bits rs) (struck (rooted rs f c)) (free-all f (total-bits rs) [] (rooted rs f c) tt roots)) in
-          subst (λ b. All (λ w. proper-clause (free-to f (total-bits rs)) w ≡ true) (map (map (lit f)) (cond b [] (struck (rooted rs f c) ∷ [])))) (sym e) (ok, tt)
-    ]
+    | inl e ↦ subst (λ b. All (λ w. proper-clause (free-to f (total-bits rs)) w ≡ true) (map (map (lit f)) (cond b [] (struck (rooted rs f c) ∷ [])))) (sym e) tt
+    | inr e ↦
+        let k = parts (has (rooted rs f c) True) (opposed (rooted rs f c)) e in
+        let roots = roots-only f (total-bits rs) fixed (literals rs c) (rooted-there rs f named c) (k .0) in
+        let long : length (map (lit f) (struck (rooted rs f c))) ≤ 64 = simp length-map (omega (arith, length-folded [] (rooted rs f c), length-rooted rs f c)) in
+        let ok = and-from (leb (length (map (lit f) (struck (rooted rs f c)))) 64) (proper-lits (free-to f (total-bits rs)) (map (lit f) (struck (rooted rs f c)))) (le-leb (length (map (lit f) (struck (rooted rs f c)))) 64 long) (lits-proper f (total-bits rs) (struck (rooted rs f c)) (free-all f (total-bits rs) [] (rooted rs f c) tt roots)) in
+        subst (λ b. All (λ w. proper-clause (free-to f (total-bits rs)) w ≡ true) (map (map (lit f)) (cond b [] (struck (rooted rs f c) ∷ [])))) (sym e) (ok, tt)
+  ]
     where
       parts : (a b : Bool) → (a || b) ≡ false → (a ≡ false) × (b ≡ false)
       parts a b h = grind arith

@@ -21,20 +21,22 @@ has-append (m ∷ c) d l = ap (λ b. same m l || b) (has-append c d l) ∙ regro
 
 has-add : (d : List Literal) (m l : Literal) → has (add d m) l ≡ (has d l || (same m l && not (same l False)))
 has-add d m l = elim (cases-bool (same m False || has d m)) [
-    | inl k ↦ rw k (elim (cases-bool (same m l)) [
-        | inr n ↦ rw n (alone (has d l))
-        | inl e ↦ rw e (old (has d l) (same l False) (ap (λ x. same x False || has d x) (sym (equal-from-same m l e)) ∙ k))
-      ])
-    | inr k ↦ rw k (has-append d (m ∷ []) l ∙ elim (cases-bool (same m l)) [
-        | inr n ↦ rw n
-        | inl e ↦ rw e (new (has d l) (same l False) (ap (λ x. same x False || has d x) (sym (equal-from-same m l e)) ∙ k))
-      ])
-  ]
+  | inl k ↦ rw k (elim (cases-bool (same m l)) [
+    | inr n ↦ rw n (alone (has d l))
+    | inl e ↦ rw e (old (has d l) (same l False) (ap (λ x. same x False || has d x) (sym (equal-from-same m l e)) ∙ k))
+  ])
+  | inr k ↦ rw k (has-append d (m ∷ []) l ∙ elim (cases-bool (same m l)) [
+    | inr n ↦ rw n
+    | inl e ↦ rw e (new (has d l) (same l False) (ap (λ x. same x False || has d x) (sym (equal-from-same m l e)) ∙ k))
+  ])
+]
   where
     alone : (b : Bool) → b ≡ (b || false)
     alone b = grind arith
+
     old : (a z : Bool) → (z || a) ≡ true → a ≡ (a || (true && not z))
     old a z h = grind arith
+
     new : (a z : Bool) → (z || a) ≡ false → (a || (true || false)) ≡ (a || (true && not z))
     new a z h = grind arith
 
@@ -59,19 +61,19 @@ opposed-has [] h = absurd (no h)
     no : false ≡ true → ⊥
     no h = grind arith
 opposed-has (m ∷ c) h = elim (or-cases (has c (opposite m)) (opposed c) h) [
-    | inl q ↦ (m, or-left (same m m) (has c m) (same-itself m), or-right (same m (opposite m)) (has c (opposite m)) q)
-    | inr q ↦ let i = opposed-has c q in (i .0, or-right (same m (i .0)) (has c (i .0)) (i .1), or-right (same m (opposite (i .0))) (has c (opposite (i .0))) (i .2))
-  ]
+  | inl q ↦ (m, or-left (same m m) (has c m) (same-itself m), or-right (same m (opposite m)) (has c (opposite m)) q)
+  | inr q ↦ let i = opposed-has c q in (i .0, or-right (same m (i .0)) (has c (i .0)) (i .1), or-right (same m (opposite (i .0))) (has c (opposite (i .0))) (i .2))
+]
 
 pub has-opposed : (c : List Literal) (l : Literal) → has c l ≡ true → has c (opposite l) ≡ true → opposed c ≡ true
 has-opposed [] l h k = h
 has-opposed (m ∷ c) l h k = elim (or-cases (same m l) (has c l) h) [
-    | inl e ↦ elim (or-cases (same m (opposite l)) (has c (opposite l)) k) [
-        | inl g ↦ absurd (opposite-apart l (sym (equal-from-same m (opposite l) g) ∙ equal-from-same m l e))
-        | inr g ↦ or-left (has c (opposite m)) (opposed c) (ap (λ x. has c (opposite x)) (equal-from-same m l e) ∙ g)
-      ]
-    | inr e ↦ elim (or-cases (same m (opposite l)) (has c (opposite l)) k) [
-        | inl g ↦ or-left (has c (opposite m)) (opposed c) (ap (has c) (ap opposite (equal-from-same m (opposite l) g) ∙ opposite-opposite l) ∙ e)
-        | inr g ↦ or-right (has c (opposite m)) (opposed c) (has-opposed c l e g)
-      ]
+  | inl e ↦ elim (or-cases (same m (opposite l)) (has c (opposite l)) k) [
+    | inl g ↦ absurd (opposite-apart l (sym (equal-from-same m (opposite l) g) ∙ equal-from-same m l e))
+    | inr g ↦ or-left (has c (opposite m)) (opposed c) (ap (λ x. has c (opposite x)) (equal-from-same m l e) ∙ g)
   ]
+  | inr e ↦ elim (or-cases (same m (opposite l)) (has c (opposite l)) k) [
+    | inl g ↦ or-left (has c (opposite m)) (opposed c) (ap (has c) (ap opposite (equal-from-same m (opposite l) g) ∙ opposite-opposite l) ∙ e)
+    | inr g ↦ or-right (has c (opposite m)) (opposed c) (has-opposed c l e g)
+  ]
+]

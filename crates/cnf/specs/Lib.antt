@@ -2,3 +2,4 @@ pub mod Reduced
 pub mod Numbered
 pub mod Encoded
 pub mod Passed
+pub mod Roles

@@ -26,7 +26,8 @@ pub impl<'a, 'b, 'c, R: Roots, S: Sink> Visitor for Costing<'a, 'b, 'c, R, S> as
     fn visit(&mut self, clause: &[Bound]) {
         if self.encoder.encode(self.variables, self.roots, clause) {
             self.clauses = self.clauses.saturating_add(1);
-            self.cost = self.cost.saturating_add(S::clause_cost(self.encoder.lits()));
+            self.cost = self.cost
+                .saturating_add(S::clause_cost(self.encoder.lits()));
         }
     }
 }

@@ -5,4 +5,5 @@ pub mod literals;
 pub mod numbering;
 pub mod put;
 mod reduce;
+pub mod role;
 pub mod roots;

@@ -50,10 +50,22 @@ fn lit_of(numbers: &[u16], literal: Literal) -> Lit
     ensures { λ r. ⌜ ((f : ℕ → Literal) → Numbers f (now (numbers .entry)) → there (length (now (numbers .entry))) literal ≡ true → r ≡ lit f literal) ⌝ }
 {
     match literal {
-        Literal::False => Lit { variable: 0, negated: false },
-        Literal::True => Lit { variable: 0, negated: true },
-        Literal::Bit(n) => Lit { variable: number(numbers, n), negated: false },
-        Literal::Not(n) => Lit { variable: number(numbers, n), negated: true },
+        Literal::False => Lit {
+            variable: 0,
+            negated: false,
+        },
+        Literal::True => Lit {
+            variable: 0,
+            negated: true,
+        },
+        Literal::Bit(n) => Lit {
+            variable: number(numbers, n),
+            negated: false,
+        },
+        Literal::Not(n) => Lit {
+            variable: number(numbers, n),
+            negated: true,
+        },
     }
 }
 

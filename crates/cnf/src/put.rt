@@ -17,7 +17,14 @@ pub struct Putting<'a, 'b, 'c, 'd, R, S> {
     pub encoder: &'d mut Encoder,
 }
 
-pub impl<'a, 'b, 'c, 'd, R: Roots, S: Sink> Visitor for Putting<'a, 'b, 'c, 'd, R, S> as PuttingVisitor {
+pub impl<'a, 'b, 'c, 'd, R: Roots, S: Sink> Visitor for Putting<
+    'a,
+    'b,
+    'c,
+    'd,
+    R,
+    S,
+> as PuttingVisitor {
     ghost step = { Put (R·Roots .root) (S·Sink .costs) (S·Sink .state) };
 
     fn visit(&mut self, clause: &[Bound]) {

@@ -8,14 +8,20 @@ ghost use Rattle.std.specs.Of.Vec.{vec-items, vec-len, vec-cap};
 ghost use Rattle.order.specs.Variables.{ranges-of};
 ghost use Rattle.cnf.specs.Reduced.{written};
 ghost use Rattle.cnf.specs.Numbered.{rooted};
-use crate::literals::has;
+use crate::role::Role;
+use crate::role::role_of;
 use crate::roots::Roots;
 use order::bound::Bound;
 use order::literal::Literal;
 use order::variables::Variables;
 
 /// Puts what is written of a clause into `out`, and answers whether it is written at all.
-pub(crate) fn reduce<R: Roots>(variables: &Variables, roots: &R, clause: &[Bound], out: &mut Vec<Literal>) -> bool
+pub(crate) fn reduce<R: Roots>(
+    variables: &Variables,
+    roots: &R,
+    clause: &[Bound],
+    out: &mut Vec<Literal>,
+) -> bool
     requires { ⌜ length (now clause) ≤ vec-cap (now out) ⌝ }
     ensures value { λ r. ⌜ written (rooted (ranges-of (now (variables .entry))) (R·Roots .root (now (roots .entry))) (now (clause .entry))) ≡ cond r (vec-items (now (out .exit)) ∷ []) [] ⌝ }
     ensures short { λ r. ⌜ vec-len (now (out .exit)) ≤ length (now (clause .entry)) ⌝ }
@@ -23,12 +29,11 @@ pub(crate) fn reduce<R: Roots>(variables: &Variables, roots: &R, clause: &[Bound
 {
     out.clear();
     for bound in clause {
-        match roots.root_of(variables.literal(*bound)) {
-            Literal::True => return false,
-            Literal::False => {}
-            l if has(out, l) => {}
-            l if has(out, l.opposite()) => return false,
-            l => out.push_reserved(l),
+        let l = roots.root_of(variables.literal(*bound));
+        match role_of(out, l) {
+            Role::Settles => return false,
+            Role::Idle => {}
+            Role::New => out.push_reserved(l),
         }
     }
     true

@@ -5,6 +5,7 @@ ghost use lib.Chars.{codes};
 ghost use Rattle.std.specs.Of.String.{string-bytes};
 ghost use Rattle.std.specs.Written.{decimal};
 ghost use Rattle.std.specs.Vec.{made};
+ghost use Rattle.sink.specs.Views.{text-state, fresh};
 ghost use Rattle.sheet.specs.Refusals.{number, layer};
 ghost use Rattle.job.specs.Refusals.{number as job-number};
 ghost use Rattle.compile.specs.Compiles.{Compiles, refused-line};
@@ -27,17 +28,28 @@ pub enum Compiled {
     Unwritten(Refusal),
 }
 
+// An empty file.
+fn new_file(heap: Global) -> Result<TextSink, AllocError>
+    ensures { λ r. ⌜ made r (λ s. text-state s ≡ fresh 65536) ⌝ }
+{
+    TextSink::new(heap, FILE_BYTES)
+}
+
 /// Reads a sheet, closes its job and writes it as text.
 pub fn compile(heap: Global, text: &[u8]) -> Result<Compiled, AllocError>
     ensures { λ r. ⌜ made r (λ c. Compiles (now (text .entry)) c) ⌝ }
 {
-    let Sheet { job, names: _, stop } = Sheet::read(heap, text)?;
+    let Sheet {
+        job,
+        names: _,
+        stop,
+    } = Sheet::read(heap, text)?;
     if let Some(stop) = stop {
         return Ok(Compiled::Stopped(stop));
     }
     let closed = job.close();
     let writer = closed.writer(heap)?;
-    let mut sink = TextSink::new(heap, FILE_BYTES)?;
+    let mut sink = new_file(heap)?;
     match writer.write(&mut sink) {
         Ok(_) => Ok(Compiled::File(sink)),
         Err(refusal) => Ok(Compiled::Unwritten(refusal)),

@@ -1,6 +1,7 @@
 //! An open job: it takes declarations.
 mod close;
 mod declare;
+mod settled;
 
 ghost use mathlib.Core.Path.{_≡_};
 ghost use lib.ListN.{length};

@@ -83,7 +83,12 @@ pub impl Kinds for End as EndKinds {
 
     fn visit_clauses<V: Visitor>(_code: u8, _items: &[Item], _ranges: &[Range], _visitor: &mut V) {}
 
-    fn tell_pairings<L: Listener>(_code: u8, _items: &[Item], _ranges: &[Range], _listener: &mut L) {}
+    fn tell_pairings<L: Listener>(
+        _code: u8,
+        _items: &[Item],
+        _ranges: &[Range],
+        _listener: &mut L,
+    ) {}
 
     fn spent<T: Standing>(_code: u8, _items: &[Item], _ranges: &[Range], _ties: &T) -> bool {
         false
@@ -103,23 +108,43 @@ pub impl<A: Kind, B: Kinds> Kinds for Both<A, B> as BothKinds {
     ghost meaning = { λ code. cond (eqb code (A·Kind .code)) (A·Kind .meaning) (B·Kinds .meaning code) };
 
     fn knows(code: u8) -> bool {
-        if code == A::own_code() { true } else { B::knows(code) }
+        if code == A::own_code() {
+            true
+        } else {
+            B::knows(code)
+        }
     }
 
     fn longest_clause(code: u8) -> usize {
-        if code == A::own_code() { A::longest_clause() } else { B::longest_clause(code) }
+        if code == A::own_code() {
+            A::longest_clause()
+        } else {
+            B::longest_clause(code)
+        }
     }
 
     fn formed(code: u8, items: &[Item]) -> bool {
-        if code == A::own_code() { A::formed(items) } else { B::formed(code, items) }
+        if code == A::own_code() {
+            A::formed(items)
+        } else {
+            B::formed(code, items)
+        }
     }
 
     fn fits(code: u8, items: &[Item], ranges: &[Range]) -> bool {
-        if code == A::own_code() { A::fits(items, ranges) } else { B::fits(code, items, ranges) }
+        if code == A::own_code() {
+            A::fits(items, ranges)
+        } else {
+            B::fits(code, items, ranges)
+        }
     }
 
     fn met(code: u8, items: &[Item], values: &[u8]) -> bool {
-        if code == A::own_code() { A::met(items, values) } else { B::met(code, items, values) }
+        if code == A::own_code() {
+            A::met(items, values)
+        } else {
+            B::met(code, items, values)
+        }
     }
 
     fn visit_clauses<V: Visitor>(code: u8, items: &[Item], ranges: &[Range], visitor: &mut V) {
@@ -139,6 +164,10 @@ pub impl<A: Kind, B: Kinds> Kinds for Both<A, B> as BothKinds {
     }
 
     fn spent<T: Standing>(code: u8, items: &[Item], ranges: &[Range], ties: &T) -> bool {
-        if code == A::own_code() { A::spent(items, ranges, ties) } else { B::spent(code, items, ranges, ties) }
+        if code == A::own_code() {
+            A::spent(items, ranges, ties)
+        } else {
+            B::spent(code, items, ranges, ties)
+        }
     }
 }

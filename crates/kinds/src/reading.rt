@@ -1,7 +1,7 @@
 //! Reading a row: its variables, and their ranges and values.
 ghost use mathlib.Core.Path.{_≡_};
 ghost use Rattle.order.specs.Ranges.{low, high};
-ghost use Rattle.kinds.specs.Items.{var, plain};
+ghost use Rattle.kinds.specs.Items.{var, variables-only, plain};
 ghost use Rattle.kinds.specs.Meaning.{valued};
 use crate::item::Item;
 use order::range::Range;
@@ -38,17 +38,21 @@ pub fn value_of(values: &[u8], variable: u16) -> u8
     }
 }
 
-/// Whether there are `count` items, each a variable.
-pub fn only_variables(items: &[Item], count: usize) -> bool
-    ensures { λ r. ⌜ r ≡ plain count (now (items .entry)) ⌝ }
+// Whether each item is a variable.
+fn all_variables(items: &[Item]) -> bool
+    ensures { λ r. ⌜ r ≡ variables-only (now (items .entry)) ⌝ }
 {
-    if items.len() != count {
-        return false;
-    }
     for item in items {
         if let Item::Bounded(_) = item {
             return false;
         }
     }
     true
+}
+
+/// Whether there are `count` items, each a variable.
+pub fn only_variables(items: &[Item], count: usize) -> bool
+    ensures { λ r. ⌜ r ≡ plain count (now (items .entry)) ⌝ }
+{
+    items.len() == count && all_variables(items)
 }

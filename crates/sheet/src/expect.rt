@@ -15,7 +15,10 @@ pub(crate) fn expect_word(text: &[u8], rest: Part, word: &[u8], place: usize) ->
         return Err(place);
     };
     if found.of(text) == word {
-        Ok(Part { start: found.end, end: rest.end })
+        Ok(Part {
+            start: found.end,
+            end: rest.end,
+        })
     } else {
         Err(place)
     }
@@ -29,7 +32,13 @@ pub(crate) fn expect_name(text: &[u8], rest: Part, place: usize) -> Result<(Part
         return Err(place);
     };
     match Word::of(found.of(text)) {
-        Word::Name(_) => Ok((found, Part { start: found.end, end: rest.end })),
+        Word::Name(_) => Ok((
+            found,
+            Part {
+                start: found.end,
+                end: rest.end,
+            },
+        )),
         _ => Err(place),
     }
 }
@@ -42,7 +51,13 @@ pub(crate) fn expect_number(text: &[u8], rest: Part, place: usize) -> Result<(u1
         return Err(place);
     };
     match Word::of(found.of(text)) {
-        Word::Number(_, value) => Ok((value, Part { start: found.end, end: rest.end })),
+        Word::Number(_, value) => Ok((
+            value,
+            Part {
+                start: found.end,
+                end: rest.end,
+            },
+        )),
         _ => Err(place),
     }
 }

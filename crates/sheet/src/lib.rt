@@ -1,4 +1,4 @@
-//! Job sheets: variable lines and rule lines, read into a new job.
+//! Job sheets: variable lines, read into a new job up to the rules.
 pub mod directory;
 mod expect;
 pub mod reader;

@@ -26,7 +26,11 @@ use std::alloc::Global;
 
 impl Encoder {
     /// An encoder for the variables and their roots.
-    pub fn new<R: Roots>(heap: Global, variables: &Variables, roots: &R) -> Result<Encoder, AllocError>
+    pub fn new<R: Roots>(
+        heap: Global,
+        variables: &Variables,
+        roots: &R,
+    ) -> Result<Encoder, AllocError>
         ensures { λ r. ⌜ made r (λ e. Ready (ranges-of (now (variables .entry))) (R·Roots .root (now (roots .entry))) e) ⌝ }
     {
         Ok(Encoder {

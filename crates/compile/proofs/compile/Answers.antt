@@ -9,8 +9,7 @@ use Rattle.compile.proofs.compile.Needs as need
 pub returns-in-Ok : need.returns-in-Ok
 returns-in-Ok c =
     let read = c .in-Continue-job .ensures tt in
-    let view = sym (c .in-Continue-writer .ensures tt ∙ c .close-closed .ensures ∙ ap (λ (o : Outcome). o .view) read) in
-    (
+    let view = sym (c .in-Continue-writer .ensures tt ∙ c .close-closed .ensures ∙ ap (λ (o : Outcome). o .view) read) in (
       sym (ap (λ (o : Outcome). o .stop) read) ∙ c .in-rest .is,
       (c .in-Ok .field-0, ap (λ v. writing text-costs v (fresh 65536)) view ∙ ap (writing text-costs (writer-view (c .in-Continue-writer .writer))) (sym (c .in-Continue-sink .ensures tt)) ∙ c .in-Ok .ensures tt),
     )
@@ -18,8 +17,7 @@ returns-in-Ok c =
 pub returns : need.returns
 returns c =
     let read = c .in-Continue-job .ensures tt in
-    let view = sym (c .in-Continue-writer .ensures tt ∙ c .close-closed .ensures ∙ ap (λ (o : Outcome). o .view) read) in
-    (
+    let view = sym (c .in-Continue-writer .ensures tt ∙ c .close-closed .ensures ∙ ap (λ (o : Outcome). o .view) read) in (
       sym (ap (λ (o : Outcome). o .stop) read) ∙ c .in-rest .is,
       ap (λ v. writing text-costs v (fresh 65536)) view ∙ ap (writing text-costs (writer-view (c .in-Continue-writer .writer))) (sym (c .in-Continue-sink .ensures tt)) ∙ c .in-Err .ensures tt .0,
     )

@@ -6,12 +6,15 @@ ghost use Rattle.std.specs.declared.option.Option.the-variants.{Some, None};
 ghost use Rattle.order.specs.Ranges.{is-range, range};
 use super::Range;
 
+/// The greatest value that a range may have.
+const HIGHEST: u32 = 255;
+
 impl Range {
     /// The range from `low` to `high`; none unless low ≤ high ≤ 255.
     pub fn new(low: u32, high: u32) -> Option<Range>
         ensures { λ r. ⌜ r ≡ cond (is-range low high) (Some (range low high)) None ⌝ }
     {
-        if low <= high && high <= 255 {
+        if low <= high && high <= HIGHEST {
             Some(Range {
                 low: low as u8,
                 high: high as u8,

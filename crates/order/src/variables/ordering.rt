@@ -1,12 +1,23 @@
 //! The order clauses of the variables.
-ghost use Prim.Native.Nat.{_<_};
+ghost use mathlib.Core.Path.{_≡_};
+ghost use mathlib.Core.List.{[], _∷_};
+ghost use Prim.Native.Nat.{_+_, _<_};
 ghost use lib.ListN.{length};
+ghost use Rattle.order.specs.Bounds.{reaches, misses};
 ghost use Rattle.order.specs.Orders.{order, orders};
 ghost use Rattle.order.specs.Variables.{ranges-of};
 ghost use Rattle.order.specs.Visits.{After};
 use super::Variables;
 use crate::bound::Bound;
 use crate::visit::Visitor;
+
+// Where X reaches t + 1 it reaches t.
+fn step(variable: u16, t: u16) -> [Bound; 2]
+    requires { ⌜ t < 65535 ⌝ }
+    ensures { λ r. ⌜ r ≡ misses variable (t + 1) ∷ reaches variable t ∷ [] ⌝ }
+{
+    [Bound::below(variable, t + 1), Bound::at_least(variable, t)]
+}
 
 impl Variables {
     // Shows the visitor the order clauses of one variable.
@@ -17,7 +28,7 @@ impl Variables {
         let range = self.ranges[x];
         let variable = x as u16;
         for t in range.low() as u16 + 1..range.high() as u16 {
-            visitor.visit(&[Bound::below(variable, t + 1), Bound::at_least(variable, t)]);
+            visitor.visit(&step(variable, t));
         }
     }
 

@@ -37,7 +37,11 @@ impl Variables {
     {
         let x = variable as usize;
         if x >= self.ranges.len() {
-            return if at == 0 { Literal::True } else { Literal::False };
+            return if at == 0 {
+                Literal::True
+            } else {
+                Literal::False
+            };
         }
         let range = self.ranges[x];
         let low = range.low() as u16;
@@ -55,6 +59,10 @@ impl Variables {
         ensures { λ r. ⌜ r ≡ literal (ranges-of (now (self .entry))) bound ⌝ }
     {
         let reached = self.reach(bound.variable, bound.at);
-        if bound.opposed { reached.opposite() } else { reached }
+        if bound.opposed {
+            reached.opposite()
+        } else {
+            reached
+        }
     }
 }

@@ -1,5 +1,7 @@
 //! Reading a sheet, line by line.
 ghost use mathlib.Core.Path.{_≡_};
+ghost use lib.Dec.{ltb};
+ghost use lib.ListN.{length};
 ghost use Rattle.std.specs.Vec.{made};
 ghost use Rattle.std.specs.declared.option.Option.the-variants.{Some, None};
 ghost use Rattle.words.specs.Parts.{bytes};
@@ -27,6 +29,13 @@ use std::alloc::Global;
 use words::lines::next_line;
 use words::lines::next_word;
 use words::parts::Part;
+
+// Whether a sheet has more bytes than it may have.
+fn too_long(text: &[u8]) -> bool
+    ensures { λ r. ⌜ r ≡ ltb 65535 (length (now (text .entry))) ⌝ }
+{
+    text.len() > 65535
+}
 
 /// Why a line was not read: it is refused at a word, or there is no memory.
 #[derive(Clone, Copy)]
@@ -142,6 +151,22 @@ impl Reader<'_> {
     }
 }
 
+// The refusal of a sheet that ends in the section, where the line with the number `line` would begin.
+fn end_stop(section: Section, line: usize) -> Option<Stop>
+    ensures { λ r. ⌜ r ≡ end-stop section line ⌝ }
+{
+    let reason = match section {
+        Section::Start => Reason::BadHeading,
+        Section::Gap => Reason::BadRuleHeading,
+        Section::Variables | Section::Rules => return None,
+    };
+    Some(Stop {
+        reason,
+        line,
+        word: 1,
+    })
+}
+
 impl Reader<'_> {
     // The sheet as it was when a line was refused.
     fn stopped(self, reason: Reason, line: usize, word: usize) -> Sheet
@@ -169,13 +194,16 @@ impl Reader<'_> {
     fn ended(self, line: usize) -> Sheet
         ensures { λ r. ⌜ outcome-of (now (self .entry .text)) r ≡ outcome (draft-of (self .entry)) (end-stop (self .entry .section) line) ⌝ }
     {
-        match self.section {
-            Section::Start => self.stopped(Reason::BadHeading, line, 1),
-            Section::Gap => self.stopped(Reason::BadRuleHeading, line, 1),
-            Section::Variables | Section::Rules => {
-                let Reader { job, names, .. } = self;
-                Sheet { job, names, stop: None }
-            }
+        let Reader {
+            job,
+            names,
+            section,
+            ..
+        } = self;
+        Sheet {
+            job,
+            names,
+            stop: end_stop(section, line),
         }
     }
 }
@@ -191,7 +219,7 @@ impl Sheet {
             names: Vec::new(heap),
             section: Section::Start,
         };
-        if text.len() > 65535 {
+        if too_long(text) {
             return Ok(reader.stopped(Reason::TooLong, 1, 1));
         }
         let mut line = 1;

@@ -24,8 +24,7 @@ loop-k-again g c =
       | then-eq w ↦ omega (arith, w .free-is, more, ap one-if (w .if-eq .taken))
       | else-eq w ↦ omega (arith, w .free-is, more, ap one-if (w .if-eq .left))
     ] in
-    let items = c .in-Continue-push .ensures tt .items in
-    (
+    let items = c .in-Continue-push .ensures tt .items in (
       ap length items ∙ length-push (vec-items (c .loop-k .all)) (c .if-eq .free) ∙ ap (λ n. n + 1) (old .0),
       new,
       elim (c .if-eq .came) [

@@ -1,5 +1,6 @@
 //! Writing a closed job: what it costs first, then header and clauses.
 ghost use mathlib.Core.Path.{_≡_};
+ghost use lib.Dec.{ltb};
 ghost use lib.ListN.{length};
 ghost use Rattle.std.specs.Vec.{made};
 ghost use Rattle.order.specs.Variables.{ranges-of};
@@ -38,7 +39,12 @@ impl ClosedJob {
 }
 
 // Counts the clauses that will be written, and adds up what they cost; gives the encoder back first.
-fn measure<S: Sink>(variables: &Variables, ties: &Ties, encoder: Encoder, sink: &S) -> (Encoder, usize, usize)
+fn measure<S: Sink>(
+    variables: &Variables,
+    ties: &Ties,
+    encoder: Encoder,
+    sink: &S,
+) -> (Encoder, usize, usize)
     requires { ⌜ Ready (ranges-of (now variables)) (root-of (now ties)) encoder ⌝ }
     ensures ready { λ r. ⌜ Ready (ranges-of (now (variables .entry))) (root-of (now (ties .entry))) (r .0) ⌝ }
     ensures clauses { λ r. ⌜ r .1 ≡ length (output (parts-view (now (variables .entry)) (now (ties .entry)))) ⌝ }
@@ -70,6 +76,13 @@ fn put<S: Sink>(variables: &Variables, ties: &Ties, encoder: &mut Encoder, sink:
     variables.visit_orders(&mut putting);
 }
 
+// Whether the sink has fewer units left than these.
+fn lacks<S: Sink>(sink: &S, units: usize) -> bool
+    ensures { λ r. ⌜ r ≡ ltb (S·Sink .state (now (sink .entry)) .left) units ⌝ }
+{
+    units > sink.units_left()
+}
+
 impl Writer<'_> {
     /// Writes header and clauses to a sink that has no header and room for all of it.
     pub fn write<S: Sink>(self, sink: &mut S) -> Result<Header, Refusal>
@@ -78,14 +91,18 @@ impl Writer<'_> {
         if sink.has_header() {
             return Err(Refusal::HeaderPresent);
         }
-        let Writer { variables, ties, encoder } = self;
+        let Writer {
+            variables,
+            ties,
+            encoder,
+        } = self;
         let free = encoder.free();
         let (mut encoder, clauses, cost) = measure(variables, ties, encoder, &*sink);
         let header = Header {
             variables: free,
             clauses: clauses as u32,
         };
-        if S::header_cost(header) + cost > sink.units_left() {
+        if lacks(&*sink, S::header_cost(header) + cost) {
             return Err(Refusal::NoSpace);
         }
         sink.take_header(header);

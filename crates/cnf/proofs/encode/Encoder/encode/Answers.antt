@@ -26,11 +26,11 @@ returns g c =
     record {
       same = refl;
       written = λ ready short.
-        ap (map (map (lit f))) out
-        ∙ ap (λ x. x ∷ []) (sym (
+          ap (map (map (lit f))) out
+          ∙ ap (λ x. x ∷ []) (sym (
           c .number-all .ensures .value f
-            (subst (λ ns. Numbers f ns) (sym (c .deref .ensures .value)) (ready .numbered))
-            (subst (λ d. all-there (length (c .deref .result .now)) d ≡ true) (sym (c .deref-2 .ensures .value))
-              (kept-there rs f (g .R·Roots·met .named (c .args .roots .now)) (c .args .clause .now) (vec-items (c .reduce .last .out)) (length (c .deref .result .now)) (ap length (c .deref .ensures .value) ∙ ready .long) out))
+          (subst (λ ns. Numbers f ns) (sym (c .deref .ensures .value)) (ready .numbered))
+          (subst (λ d. all-there (length (c .deref .result .now)) d ≡ true) (sym (c .deref-2 .ensures .value))
+          (kept-there rs f (g .R·Roots·met .named (c .args .roots .now)) (c .args .clause .now) (vec-items (c .reduce .last .out)) (length (c .deref .result .now)) (ap length (c .deref .ensures .value) ∙ ready .long) out))
           ∙ ap (map (lit f)) (c .deref-2 .ensures .value)));
     }

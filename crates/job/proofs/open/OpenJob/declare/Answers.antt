@@ -31,10 +31,10 @@ returns-in-Ok c =
     let roots = grown (c .grow .result) _ _ _ (c .if-is-err-2 .ensures tt .value) (c .grow .ensures .grows) in
     record {
       answers = declared _ _ (c .args .low) (c .args .high) (c .in-Ok .place) (c .in-Some .range) (c .in-Some .ensures tt)
-        (sym (ap (λ rs. few-variables rs 1) old) ∙ added .0)
-        (sym (ap (λ rs. few-bits rs (c .in-Some .range .high - c .in-Some .range .low)) old) ∙ added .1)
-        (added .2 ∙ ap length old)
-        (added .3 ∙ ap (λ rs. rs ++ c .in-Some .range ∷ []) old)
-        (roots .roots);
+          (sym (ap (λ rs. few-variables rs 1) old) ∙ added .0)
+          (sym (ap (λ rs. few-bits rs (c .in-Some .range .high - c .in-Some .range .low)) old) ∙ added .1)
+          (added .2 ∙ ap length old)
+          (added .3 ∙ ap (λ rs. rs ++ c .in-Some .range ∷ []) old)
+          (roots .roots);
       memory = λ _. refl;
     }

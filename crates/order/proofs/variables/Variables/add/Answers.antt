@@ -14,8 +14,16 @@ ghost-self c =
     let long = old .ranges .ok .0 in
     let here = c .args .self .now .ranges .ok .0 in
     let same : length (old .before .items) ≡ length (old .ranges .items) = omega (arith, old .before .ok .0) in
-    let all : old .bits ≡ first (old .ranges .items) (length (old .ranges .items)) = old .counted ∙ ap (first (old .ranges .items)) (omega arith) in
-    (omega arith, (omega arith, (omega arith, (
-      counted-push (old .ranges .items) _ (c .args .range) (old .bits) _ _ (c .push-reserved .ensures .items) all (omega arith) (omega (arith, c .reserve .ensures .bits)),
-      (placed-pushed (old .ranges .items) _ (old .before .items) _ (c .args .range) _ (c .push-reserved .ensures .items) (c .push-reserved-2 .ensures .items) (old .placed) same all, tt)
-    ))))
+    let all : old .bits ≡ first (old .ranges .items) (length (old .ranges .items)) = old .counted ∙ ap (first (old .ranges .items)) (omega arith) in (
+      omega arith,
+      (
+        omega arith,
+        (
+          omega arith,
+          (
+            counted-push (old .ranges .items) _ (c .args .range) (old .bits) _ _ (c .push-reserved .ensures .items) all (omega arith) (omega (arith, c .reserve .ensures .bits)),
+            (placed-pushed (old .ranges .items) _ (old .before .items) _ (c .args .range) _ (c .push-reserved .ensures .items) (c .push-reserved-2 .ensures .items) (old .placed) same all, tt),
+          ),
+        ),
+      ),
+    )

@@ -15,8 +15,7 @@ entries : (c : need.After-row-known·1) → (c .index .result .now ≡ first (c 
 entries c =
     let self = c .args .self .now in
     let there : c .args .variable < length (self .ranges .items) = omega (arith, self .ranges .ok .0) in
-    let same : length (self .before .items) ≡ length (self .ranges .items) = omega (arith, self .ranges .ok .0, self .before .ok .0) in
-    (
+    let same : length (self .before .items) ≡ length (self .ranges .items) = omega (arith, self .ranges .ok .0, self .before .ok .0) in (
       entry-before (self .ranges .items) (self .before .items) (c .args .variable) (c .index .result .now) (self .placed) same there (c .index .ensures),
       entry-range (self .ranges .items) (c .args .variable) (c .index-range .result .now) there (c .index-range .ensures),
     )

@@ -1,5 +1,4 @@
 use mathlib.Core.Path.{_≡_, ap, subst, subst₂, _∙_}
-use mathlib.Core.List.{[], _∷_}
 use Prim.Native.Nat.{ℕ, _+_, _<_}
 use native.Mathlib.Omega.{arith}
 use lib.ListN.{length}
@@ -14,10 +13,9 @@ use Rattle.order.proofs.variables.Variables.visit_order.Needs as need
 
 pub loop-t-again : need.loop-t-again
 loop-t-again g c =
-    let clause = subst (λ d. g .V·Visitor .step (c .loop-t .visitor) d (c .visit .last .self)) (λ i. c .below .ensures i ∷ (c .at-least .ensures i ∷ [])) (c .visit .ensures) in
-    (
+    let clause = subst (λ d. g .V·Visitor .step (c .loop-t .visitor) d (c .visit .last .self)) (c .step .ensures) (c .visit .ensures) in (
       after-more (g .V·Visitor .step) (step (c .args .x)) (c .low .result + 1) (c .loop-t .t) _ _ _ (c .loop-t .kept .t) (c .loop-t .inv .0) (after-one (g .V·Visitor .step) _ _ _ clause),
-      omega arith
+      omega arith,
     )
 
 pub returns : need.returns

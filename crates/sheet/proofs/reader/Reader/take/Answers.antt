@@ -14,6 +14,6 @@ returns-in-Variables-Wordy c =
     record {
       text = c .variable .ensures .text;
       steps =
-        subst (λ s. Steps (line-step s d ws) (c .variable .result) d after) (sym (c .in-Variables-Wordy .is-0))
-        (subst (λ v. Steps v (c .variable .result) d after) (sym (wordy-line d ws (c .in-Variables-Wordy .ensures tt))) (c .variable .ensures .steps));
+          subst (λ s. Steps (line-step s d ws) (c .variable .result) d after) (sym (c .in-Variables-Wordy .is-0))
+          (subst (λ v. Steps v (c .variable .result) d after) (sym (wordy-line d ws (c .in-Variables-Wordy .ensures tt))) (c .variable .ensures .steps));
     }

@@ -21,12 +21,12 @@ returns-in-Ok-declare c =
     let ws = words-of text (c .args .line) in
     let found = c .in-Ok .ensures tt in
     let new : isSome (find (map (bytes text) (vec-items (self .names))) (word-at ws 0)) ≡ false =
-      sym (c .if-is-some .ensures tt ∙ ap isSome (c .find .ensures ∙ ap (λ ps. find (map (bytes text) ps) (c .of .result .now)) (c .deref .ensures .value) ∙ ap (find (map (bytes text) (vec-items (self .names)))) (c .of .ensures ∙ found .1))) in
+    sym (c .if-is-some .ensures tt ∙ ap isSome (c .find .ensures ∙ ap (λ ps. find (map (bytes text) ps) (c .of .result .now)) (c .deref .ensures .value) ∙ ap (find (map (bytes text) (vec-items (self .names)))) (c .of .ensures ∙ found .1))) in
     record {
       text = refl;
       steps =
-        line-declares (draft-of self) ws (c .from .result) (c .from-2 .result) _ (found .0) new (c .from .ensures ∙ found .2) (c .from-2 .ensures ∙ found .3) (c .in-Ok-declare .ensures tt .answers)
-        ∙ ap Ok (same-draft _ _ _ _ (self .section) refl (sym (names-push text (vec-items (self .names)) (vec-items (c .reserve .last .self)) _ (c .in-Ok .found .0) _ (c .push-reserved .ensures .items) (c .reserve .ensures .items) (found .1))));
+          line-declares (draft-of self) ws (c .from .result) (c .from-2 .result) _ (found .0) new (c .from .ensures ∙ found .2) (c .from-2 .ensures ∙ found .3) (c .in-Ok-declare .ensures tt .answers)
+          ∙ ap Ok (same-draft _ _ _ _ (self .section) refl (sym (names-push text (vec-items (self .names)) (vec-items (c .reserve .last .self)) _ (c .in-Ok .found .0) _ (c .push-reserved .ensures .items) (c .reserve .ensures .items) (found .1))));
     }
 
 pub returns-in-Err-declare : need.returns-in-Err-declare
@@ -36,7 +36,7 @@ returns-in-Err-declare c =
     let ws = words-of text (c .args .line) in
     let found = c .in-Ok .ensures tt in
     let new : isSome (find (map (bytes text) (vec-items (self .names))) (word-at ws 0)) ≡ false =
-      sym (c .if-is-some .ensures tt ∙ ap isSome (c .find .ensures ∙ ap (λ ps. find (map (bytes text) ps) (c .of .result .now)) (c .deref .ensures .value) ∙ ap (find (map (bytes text) (vec-items (self .names)))) (c .of .ensures ∙ found .1))) in
+    sym (c .if-is-some .ensures tt ∙ ap isSome (c .find .ensures ∙ ap (λ ps. find (map (bytes text) ps) (c .of .result .now)) (c .deref .ensures .value) ∙ ap (find (map (bytes text) (vec-items (self .names)))) (c .of .ensures ∙ found .1))) in
     let after : Draft = record { view = open-view (c .declare .last .self); names = map (bytes text) (vec-items (c .reserve .last .self)); section = self .section } in
     let steps = line-faults (draft-of self) after ws (c .from .result) (c .from-2 .result) (c .in-Err-declare .fault) (found .0) new (c .from .ensures ∙ found .2) (c .from-2 .ensures ∙ found .3) (c .in-Err-declare .ensures tt .answers) (ap (map (bytes text)) (c .reserve .ensures .items)) refl in
     record {

@@ -1,6 +1,7 @@
 use mathlib.Core.Path.{_≡_, refl, sym, ap, subst, _∙_}
 use native.Mathlib.Omega.{arith}
 use Rattle.std.specs.declared.result.Result.the-variants.{Ok, Err}
+use Rattle.std.proofs.shelf.Tests.{ltb-true, ltb-false}
 use Rattle.words.specs.Parts.{bytes}
 use Rattle.words.specs.Split.{words}
 use Rattle.sheet.specs.Reads.{Steps}
@@ -10,10 +11,12 @@ use Rattle.sheet.proofs.Rounds.{starts, reading-short, reading-long, goes-on, 
 use Rattle.sheet.proofs.reader.Sheet.read.Needs as need
 
 pub loop-part-holds : need.loop-part-holds
-loop-part-holds c = (reading-short (c .args .text .now) _ (starts (c .args .text .now) _ _ (c .new .ensures) (c .new-2 .ensures .items)) (c .if-text-gt65535 .left), refl, c .if-text-gt65535 .left, omega arith, omega arith)
+loop-part-holds c =
+    let short = ltb-false _ _ (sym (c .if-too-long .ensures tt)) in
+    (reading-short (c .args .text .now) _ (starts (c .args .text .now) _ _ (c .new .ensures) (c .new-2 .ensures .items)) short, refl, short, omega arith, omega arith)
 
-pub returns-then-text-gt65535 : need.returns-then-text-gt65535
-returns-then-text-gt65535 c = c .stopped .ensures ∙ sym (reading-long (c .args .text .now) _ (starts (c .args .text .now) _ _ (c .new .ensures) (c .new-2 .ensures .items)) (omega arith))
+pub returns-then-too-long : need.returns-then-too-long
+returns-then-too-long c = c .stopped .ensures ∙ sym (reading-long (c .args .text .now) _ (starts (c .args .text .now) _ _ (c .new .ensures) (c .new-2 .ensures .items)) (ltb-true _ _ (sym (c .if-too-long .ensures tt))))
 
 pub returns-in-Err : need.returns-in-Err
 returns-in-Err c =
@@ -29,8 +32,7 @@ loop-part-again c =
     let d = draft-of (c .loop-part .reader) in
     let inv = c .loop-part .inv in
     let step = subst (λ t. line-step (d .section) d (words (bytes t (c .in-Some .part))) ≡ Ok (draft-of (c .take .last .self))) (inv .1) (c .in-Ok .ensures tt .steps) in
-    let line = c .in-Some .ensures tt in
-    (
+    let line = c .in-Some .ensures tt in (
       goes-on (reading text) d (c .loop-part .line) _ _ (bytes text (c .in-Some .part)) (inv .0) (line .first) _ step,
       ap (λ t. t .now) (c .in-Ok .ensures tt .text) ∙ inv .1,
       inv .2,
