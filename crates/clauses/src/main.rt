@@ -1,4 +1,6 @@
 //! Reads a job sheet from standard input and prints its clause file, or one line that tells why there is none.
+#![tactic(auto)]
+
 use anyhow::anyhow;
 use compile::{Compiled, compile, refusal_line, stop_line};
 use std::io::{Read, Write};

@@ -1,4 +1,6 @@
 //! From clauses of bounds to the clauses of a file, through the roots of tied literals.
+#![tactic(auto)]
+
 pub mod cost;
 pub mod encode;
 pub mod literals;

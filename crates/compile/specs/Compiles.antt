@@ -2,28 +2,18 @@
 use Rattle.std.specs.Prelude.{◌≡◌, ℕ, List, [], ◌∷◌, ◌++◌, Some, None, Ok, Err, codes, decimal}
 use Rattle.sink.specs.Text.{text_costs}
 use Rattle.sink.specs.Views.{text_state, fresh}
-use Rattle.calls.specs.declared.refusal.Refusal.{Refusal}
-use Rattle.calls.specs.Settles.{Triple, Settling}
-use Rattle.calls.specs.View.{View}
-use Rattle.calls.specs.Writes.{writing}
+use Rattle.job.specs.declared.refusal.Refusal.{Refusal}
+use Rattle.job.specs.Writes.{writing}
 use Rattle.sink.specs.declared.header.Header.{Header}
-use Rattle.sheet.specs.Nine.{nine}
 use Rattle.sheet.specs.Sheets.{reading}
 use Rattle.compile.specs.declared.Compiled.{Compiled}
 use Rattle.compile.specs.declared.Compiled.TheVariants.{File, Stopped, Unwritten}
 
--- the job of a sheet that is not refused, once it is settled
-pub record SettledSheet (text : List ℕ) : Type 0 where
-  pub whole : (reading text).stop ≡ None
-  pub answer : Triple
-  pub view : View
-  pub settled : Settling nine (reading text).view answer view
-
--- a sheet that is refused stops there; any other is settled and written to 65,536 bytes of text, or that is refused
+-- a sheet that is refused stops there; any other is written to 65,536 bytes of text, or that is refused
 abbrev pub Compiles : List ℕ → Compiled → Type 0
-Compiles text (File sink) = (s : SettledSheet text) × ((h : Header) × (writing nine text_costs s.view (fresh 65536) ≡ Ok (h, text_state sink)))
+Compiles text (File sink) = ((reading text).stop ≡ None) × ((h : Header) × (writing text_costs (reading text).view (fresh 65536) ≡ Ok (h, text_state sink)))
 Compiles text (Stopped stop) = (reading text).stop ≡ Some stop
-Compiles text (Unwritten q) = (s : SettledSheet text) × (writing nine text_costs s.view (fresh 65536) ≡ Err q)
+Compiles text (Unwritten q) = ((reading text).stop ≡ None) × (writing text_costs (reading text).view (fresh 65536) ≡ Err q)
 
 -- each number after a blank
 abbrev pub blanked : List ℕ → List ℕ

@@ -1,11 +1,13 @@
 //! From a sheet to its clause file, or to the refusal that users see.
+#![tactic(auto)]
+
 ghost use Rattle.std.specs.Prelude.{◌≡◌, [], ◌∷◌, ◌++◌, IfOk, string_bytes, codes, decimal};
 ghost use Rattle.sink.specs.Views.{text_state, fresh};
 ghost use Rattle.sheet.specs.Refusals.{number, layer};
-ghost use Rattle.calls.specs.Refusals.{number as job_number};
+ghost use Rattle.job.specs.Refusals.{number as job_number};
 ghost use Rattle.compile.specs.Compiles.{Compiles, refused_line};
 
-use calls::refusal::Refusal;
+use job::refusal::Refusal;
 use sheet::reader::Sheet;
 use sheet::refusal::Stop;
 use sink::text::TextSink;
@@ -29,19 +31,18 @@ fn new_file(heap: Global) -> Result<TextSink, AllocError>
     TextSink::new(heap, FILE_BYTES)
 }
 
-/// Reads a sheet, settles its job, closes it and writes it as text.
+/// Reads a sheet, closes its job and writes it as text.
 pub fn compile(heap: Global, text: &[u8]) -> Result<Compiled, AllocError>
     ensures { IfOk result (λ c. Compiles text.now c) }
 {
     let Sheet {
-        mut job,
+        job,
         names: _,
         stop,
     } = Sheet::read(heap, text)?;
     if let Some(stop) = stop {
         return Ok(Compiled::Stopped(stop));
     }
-    job.settle(heap)?;
     let closed = job.close();
     let writer = closed.writer(heap)?;
     let mut sink = new_file(heap)?;

@@ -1,3 +1,3 @@
-pub mod Spaces
-pub mod Adding
-pub mod Progress
+pub mod Asking
+pub mod Declaring
+pub mod Writing

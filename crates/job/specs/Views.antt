@@ -1,32 +1,33 @@
 -- What an open job, a closed one and a writer hold. Assumes nothing.
-use Rattle.std.specs.Prelude.{ℕ, Bool, vec_items}
-use Rattle.order.specs.Variables.{ranges_of}
+use Rattle.std.specs.Prelude.{ℕ, ◌+◌, ◌≤◌, vec_len, vec_capacity}
+use Rattle.order.specs.Variables.{ranges_of, Spare}
 use Rattle.order.specs.declared.literal.Literal.{Literal}
-use Rattle.order.specs.declared.variables.Variables.{Variables}
 use Rattle.ties.specs.declared.classes.Ties.{Ties}
 use Rattle.ties.specs.Roots.{root_at}
 use Rattle.ties.specs.Views.{roots_of}
-use Rattle.kinds.specs.Meaning.{Meaning}
-use Rattle.rows.specs.Rows.{rows_of}
-use Rattle.calls.specs.Catalogues.{Catalogue, based}
-use Rattle.calls.specs.View.{View}
+use Rattle.order.specs.declared.variables.Variables.{Variables}
 use Rattle.job.specs.declared.open.OpenJob.{OpenJob}
 use Rattle.job.specs.declared.closed.ClosedJob.{ClosedJob}
 use Rattle.job.specs.declared.closed.writer.Writer.{Writer}
-
--- the kinds that a job with these others knows
-abbrev pub kinds_of : (ℕ → Bool) → (ℕ → Meaning) → Catalogue
-kinds_of known meaning = based (record { known = known; meaning = meaning })
+use Rattle.job.specs.View.{View}
 
 -- the root of each bit, by ties
 abbrev pub root_of : Ties → ℕ → Literal
 root_of t = root_at (roots_of t)
 
-abbrev pub open_view : {K : Type 0} → OpenJob K → View
-open_view j = record { ranges = ranges_of j.variables; declared = vec_items j.declared; rows = rows_of j.rows; root = root_of j.ties; void = j.void }
+-- the view of variables and ties
+abbrev pub parts_view : Variables → Ties → View
+parts_view v t = record { ranges = ranges_of v; root = root_of t }
 
-abbrev pub closed_view : {K : Type 0} → ClosedJob K → View
-closed_view j = record { ranges = ranges_of j.variables; declared = vec_items j.declared; rows = rows_of j.rows; root = root_of j.ties; void = j.void }
+abbrev pub open_view : OpenJob → View
+open_view j = parts_view j.variables j.ties
 
-abbrev pub writer_view : {K : Type 0} → Writer K → View
-writer_view w = closed_view w.job.now
+abbrev pub closed_view : ClosedJob → View
+closed_view j = parts_view j.variables j.ties
+
+abbrev pub writer_view : Writer → View
+writer_view w = parts_view w.variables.now w.ties.now
+
+-- there is memory for one variable of n bits more
+abbrev pub SpareBits : OpenJob → ℕ → Type 0
+SpareBits j n = Spare j.variables 1 × (vec_len j.ties.roots + n ≤ vec_capacity j.ties.roots)

@@ -1,3 +1,6 @@
-//! A job of whole-number variables and rows: open while it takes calls, closed when it is written.
+//! A job of whole-number variables: open while it takes declarations, closed when it is written.
+#![tactic(auto)]
+
 pub mod closed;
 pub mod open;
+pub mod refusal;

@@ -1,4 +1,6 @@
 //! Kinds of row that add, order and equate variables.
+#![tactic(auto)]
+
 pub mod base;
 mod clause;
 pub mod leq;

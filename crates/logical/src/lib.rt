@@ -1,4 +1,6 @@
 //! Rows that tell apart, choose and imply.
+#![tactic(auto)]
+
 pub mod any;
 pub mod distinct;
 mod extreme;

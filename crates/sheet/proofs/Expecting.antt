@@ -7,7 +7,7 @@ use Rattle.std.proofs.lemmas.Bool.{cases_Bool, both_ways}
 use Rattle.words.specs.declared.parts.Part.{Part}
 use Rattle.words.specs.Parts.{bytes}
 use Rattle.sheet.specs.Lines.{first_fits, rest}
-use Rattle.sheet.specs.Names.{find, find_from}
+use Rattle.sheet.specs.Sheets.{find, find_from}
 
 -- two tests of one equation, either way round
 pub same_test : (r : Bool) (x y : List ℕ) → Decides r (x ≡ y) → r ≡ bytes_eq y x

@@ -1,6 +1,3 @@
 pub mod Expecting
-pub mod Itemizing
-pub mod Growing
 pub mod LineSteps
-pub mod RuleLines
 pub mod Rounds

@@ -1,22 +1,20 @@
--- What a variable line comes to once its words are right, and a line whose call fails. Assumes nothing.
-use Rattle.std.proofs.Common.{◌≡◌, ℕ, true, false, cond, List, [], ◌∷◌, ◌++◌, map, is_some, None, Err, Option, Result, sym, refl, ap, ◌∙◌, subst, arith}
+-- What a variable line comes to once its words are right. Assumes nothing.
+use Rattle.std.proofs.Common.{◌≡◌, ℕ, Bool, true, false, cond, List, [], ◌∷◌, ◌++◌, map, is_some, Some, None, Ok, Err, Result, sym, refl, ap, ◌∙◌, arith}
 use Rattle.std.proofs.lemmas.List.{map_push}
 use Rattle.words.specs.declared.parts.Part.{Part}
 use Rattle.words.specs.Parts.{bytes}
 use Rattle.words.specs.Shapes.{number}
-use Rattle.calls.specs.declared.refusal.Refusal.{Refusal}
-use Rattle.calls.specs.Declares.{declaring}
-use Rattle.calls.specs.View.{View}
-use Rattle.calls.specs.declared.refusal.Fault.{Fault}
-use Rattle.calls.specs.declared.refusal.Fault.TheVariants.{Refused as No, NoMemory as Lack}
-use Rattle.calls.specs.Questions.{Answers}
-use Rattle.sheet.specs.declared.fault.LineFault.{LineFault}
+use Rattle.job.specs.declared.refusal.Refusal.{Refusal}
+use Rattle.job.specs.Declares.{declaring}
+use Rattle.job.specs.View.{View}
+use Rattle.job.specs.declared.refusal.Fault.{Fault}
+use Rattle.job.specs.declared.refusal.Fault.TheVariants.{Refused as No, NoMemory as Lack}
+use Rattle.job.specs.Questions.{Answers}
 use Rattle.sheet.specs.Reads.{Steps, passed}
 use Rattle.sheet.specs.declared.reader.Section.{Section}
 use Rattle.sheet.specs.declared.refusal.Reason.TheVariants.{BadVariable, NameTaken, Job}
 use Rattle.sheet.specs.Lines.{misfit, variable_words, word_at, none_left}
-use Rattle.sheet.specs.Names.{find}
-use Rattle.sheet.specs.Sheets.{Draft, Mark, mark, fitting, declared, variable_line, line_step}
+use Rattle.sheet.specs.Sheets.{Draft, Mark, mark, find, fitting, declared, variable_line, line_step}
 use Rattle.sheet.specs.declared.reader.Section.TheVariants.{Variables}
 
 -- the words are right and the name is new: the job answers
@@ -47,14 +45,8 @@ wordy_line d [] h = absurd (no h)
     no h = grind arith
 wordy_line d (w ∷ ws) h = refl
 
--- a name that is not found, looked up by its part
-pub unfound : (text : List ℕ) {ps qs : List Part} {name w at : List ℕ} {o : Option ℕ} → o ≡ find (map (bytes text) qs) name → qs ≡ ps → name ≡ at → at ≡ w → false ≡ is_some o → is_some (find (map (bytes text) ps) w) ≡ false
-unfound text {ps} {qs} {name} found same part is none =
-    sym (none ∙ ap is_some (found ∙ ap (λ x. find (map (bytes text) x) name) same ∙ ap (find (map (bytes text) ps)) (part ∙ is)))
-
--- the job refused, or lacked memory, and the line with it
-pub call_faults : (line : Result Draft Mark) (v : Result (ℕ × View) Refusal) (d d' : Draft) (fault : Fault) (out : LineFault) → ((q : Refusal) → v ≡ Err q → line ≡ Err (mark (Job q) 1)) → Answers {X = ℕ} v (Err fault) d.view d'.view → d'.names ≡ d.names → d'.section ≡ d.section → out ≡ passed fault → Steps line (Err out) d d'
-call_faults line v d d' (No q) out refuses a ns sec e =
-    subst (λ f. Steps line (Err f) d d') (sym e) (refuses q a.0, λ i. record { view = a.1 i; names = ns i; section = sec i })
-call_faults line v d d' Lack out refuses a ns sec e =
-    subst (λ f. Steps line (Err f) d d') (sym e) (λ i. record { view = a i; names = ns i; section = sec i })
+-- the job refused, or lacked memory
+pub line_faults : (d d' : Draft) (ws : List (List ℕ)) (low high : ℕ) (fault : Fault) → misfit variable_words ws 1 ≡ None → is_some (find d.names (word_at ws 0)) ≡ false → low ≡ number (word_at ws 1) → high ≡ number (word_at ws 2) → Answers {X = ℕ} (declaring d.view low high) (Err fault) d.view d'.view → d'.names ≡ d.names → d'.section ≡ d.section → Steps (variable_line d ws) (Err (passed fault)) d d'
+line_faults d d' ws low high (No q) fit new lo hi a ns sec =
+    (line_declares d ws low high (Err q) fit new lo hi a.0, λ i. record { view = a.1 i; names = ns i; section = sec i })
+line_faults d d' ws low high Lack fit new lo hi a ns sec = λ i. record { view = a i; names = ns i; section = sec i }

@@ -2,8 +2,8 @@
 use Rattle.std.specs.Prelude.{◌≡◌, ℕ, false, List, is_ok, IfOk, Some, Result}
 use Rattle.std.specs.declared.alloc.AllocError.{AllocError}
 use Rattle.sheet.specs.declared.reader.Sheet.{Sheet}
-use Rattle.sheet.specs.declared.fault.LineFault.{LineFault}
-use Rattle.sheet.specs.declared.fault.LineFault.TheVariants.{Refused, NoMemory}
+use Rattle.sheet.specs.declared.reader.reading.LineFault.{LineFault}
+use Rattle.sheet.specs.declared.reader.reading.LineFault.TheVariants.{Refused, NoMemory}
 use Rattle.sheet.specs.Sheets.{Draft, outcome}
 use Rattle.sheet.specs.Views.{outcome_of}
 

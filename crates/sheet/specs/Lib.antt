@@ -1,9 +1,6 @@
 pub mod Refusals
 pub mod Lines
 pub mod Expects
-pub mod Names
-pub mod Items
-pub mod Nine
 pub mod Sheets
 pub mod Reads
 pub mod Views

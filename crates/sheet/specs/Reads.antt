@@ -1,10 +1,10 @@
 -- What reading a line answers, and what it leaves. Assumes nothing.
-use Rattle.std.specs.Prelude.{◌≡◌, ℕ, Bool, true, false, List, [], ◌∷◌, Some, None, Ok, Err, vec_items, Result, Vec}
-use Rattle.sheet.specs.declared.fault.LineFault.{LineFault}
-use Rattle.sheet.specs.declared.fault.LineFault.TheVariants.{Refused, NoMemory}
-use Rattle.calls.specs.declared.refusal.Fault.{Fault}
-use Rattle.calls.specs.declared.refusal.Fault.TheVariants.{Refused as No, NoMemory as Lack}
-use Rattle.sheet.specs.declared.refusal.Reason.TheVariants.{Job, BadItem}
+use Rattle.std.specs.Prelude.{◌≡◌, ℕ, Bool, true, false, List, [], ◌∷◌, Some, None, Ok, Err, Result}
+use Rattle.sheet.specs.declared.reader.reading.LineFault.{LineFault}
+use Rattle.sheet.specs.declared.reader.reading.LineFault.TheVariants.{Refused, NoMemory}
+use Rattle.job.specs.declared.refusal.Fault.{Fault}
+use Rattle.job.specs.declared.refusal.Fault.TheVariants.{Refused as No, NoMemory as Lack}
+use Rattle.sheet.specs.declared.refusal.Reason.TheVariants.{Job}
 use Rattle.sheet.specs.declared.reader.reading.Shape.{Shape}
 use Rattle.sheet.specs.declared.reader.reading.Shape.TheVariants.{Wordless, Wordy}
 use Rattle.words.specs.declared.parts.Part.{Part}
@@ -12,8 +12,6 @@ use Rattle.words.specs.Parts.{bytes}
 use Rattle.words.specs.Shapes.{number}
 use Rattle.sheet.specs.Expects.{words_of}
 use Rattle.sheet.specs.Lines.{misfit, none_left, variable_words, word_at}
-use Rattle.kinds.specs.declared.item.Item.{Item}
-use Rattle.std.specs.declared.alloc.Global.{Global}
 use Rattle.sheet.specs.Sheets.{Draft, Mark, mark}
 
 -- the words are those expected, or the place of the first that is not is told
@@ -41,9 +39,3 @@ Steps v (Err NoMemory) d d' = d' ≡ d
 abbrev pub passed : Fault → LineFault
 passed (No q) = Refused (Job q) 1
 passed Lack = NoMemory
-
--- the items that words stand for, or the place of the first that stands for none
-abbrev pub TakesItems : Result (List Item) ℕ → Result (Vec Item Global) LineFault → Type 0
-TakesItems v (Ok items) = v ≡ Ok (vec_items items)
-TakesItems v (Err (Refused q n)) = (v ≡ Err n) × (q ≡ BadItem)
-TakesItems v (Err NoMemory) = Unit {0}

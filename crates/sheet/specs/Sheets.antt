@@ -1,25 +1,25 @@
 -- What a sheet says: the job that it fills, the names, and where it is refused. Assumes nothing.
 use Rattle.std.specs.Prelude.{◌≡◌, ℕ, zero, suc, ◌+◌, Bool, true, false, cond, ◌||◌, List, [], ◌∷◌, ◌++◌, length, is_some, Some, None, Ok, Err, Option, Result, nat_le}
+use Rattle.std.specs.Str.{bytes_eq}
 use Rattle.words.specs.Split.{lines, words}
 use Rattle.words.specs.Shapes.{number}
-use Rattle.calls.specs.declared.refusal.Refusal.{Refusal}
-use Rattle.calls.specs.Declares.{declaring}
-use Rattle.calls.specs.View.{View, new_view}
+use Rattle.job.specs.declared.refusal.Refusal.{Refusal}
+use Rattle.job.specs.Declares.{declaring}
+use Rattle.job.specs.View.{View, new_view}
 use Rattle.sheet.specs.declared.refusal.Reason.{Reason}
-use Rattle.sheet.specs.declared.refusal.Reason.TheVariants.{TooLong, BadVariable, NameTaken, BadRuleHeading, UnknownRule, BadItem, BadRelation, BadHeading, Job}
+use Rattle.sheet.specs.declared.refusal.Reason.TheVariants.{TooLong, BadVariable, NameTaken, BadRuleHeading, UnknownRule, BadHeading, Job}
 use Rattle.sheet.specs.declared.refusal.Stop.{Stop}
 use Rattle.sheet.specs.declared.reader.Section.{Section}
 use Rattle.sheet.specs.declared.reader.Section.TheVariants.{Start, Variables, Gap, Rules}
-use Rattle.calls.specs.Posts.{posting}
-use Rattle.calls.specs.Totals.{totalling}
-use Rattle.kinds.specs.declared.item.Item.{Item}
-use Rattle.words.specs.declared.tokens.Rule.{Rule}
-use Rattle.words.specs.declared.tokens.Rule.TheVariants.{Row, Total}
-use Rattle.words.specs.Tokens.{rule_of, relation_of}
-use Rattle.sheet.specs.Items.{items_of}
-use Rattle.sheet.specs.Lines.{misfit, heading, rule_heading, variable_words, word_at, head_word, rest}
-use Rattle.sheet.specs.Names.{find}
-use Rattle.sheet.specs.Nine.{nine}
+use Rattle.sheet.specs.Lines.{misfit, heading, rule_heading, variable_words, word_at}
+
+-- the place of the first key that is w
+abbrev pub find_from : ℕ → List (List ℕ) → List ℕ → Option ℕ
+find_from n [] w = None
+find_from n (k ∷ ks) w = cond (bytes_eq k w) (Some n) (find_from (n + 1) ks w)
+
+abbrev pub find : List (List ℕ) → List ℕ → Option ℕ
+find ks w = find_from 0 ks w
 
 -- what has been read so far: the job, the names of its variables, and what the next line may be
 pub record Draft : Type 0 where
@@ -58,44 +58,13 @@ variable_line d ws =
     (cond (is_some (find d.names (word_at ws 0))) (Err (mark NameTaken 1))
     (declared d (word_at ws 0) (declaring d.view (number (word_at ws 1)) (number (word_at ws 2)))))
 
--- the job's answer to a row or a total, likewise
-abbrev pub called : Draft → Result (ℕ × View) Refusal → Result Draft Mark
-called d (Ok y) = Ok (record { view = y.1; names = d.names; section = d.section })
-called d (Err q) = Err (mark (Job q) 1)
-
--- a row: items known? Then the job's questions
-abbrev pub row_line : Draft → ℕ → Result (List Item) ℕ → Result Draft Mark
-row_line d code (Err n) = Err (mark BadItem n)
-row_line d code (Ok items) = called d (posting nine d.view code items)
-
--- a total: target there, items known? Then the job's questions
-abbrev pub target_line : Draft → ℕ → Result (List Item) ℕ → Result Draft Mark
-target_line d relation (Err n) = Err (mark BadItem n)
-target_line d relation (Ok []) = Err (mark BadItem 3)
-target_line d relation (Ok (target ∷ items)) = called d (totalling d.view relation target items)
-
--- relation word known?
-abbrev pub total_line : Draft → Option ℕ → List (List ℕ) → Result Draft Mark
-total_line d None ws = Err (mark BadRelation 2)
-total_line d (Some relation) ws = target_line d relation (items_of d.names ws 3)
-
--- rule word known?
-abbrev pub ruled : Draft → Option Rule → List (List ℕ) → Result Draft Mark
-ruled d None ws = Err (mark UnknownRule 1)
-ruled d (Some (Row code)) ws = row_line d code (items_of d.names ws 2)
-ruled d (Some Total) ws = total_line d (relation_of (head_word ws)) (rest ws)
-
--- a rule line: its rule word, then its items
-abbrev pub rule_line : Draft → List (List ℕ) → Result Draft Mark
-rule_line d ws = ruled d (rule_of (head_word ws)) (rest ws)
-
 -- what a line of these words does
 abbrev pub line_step : Section → Draft → List (List ℕ) → Result Draft Mark
 line_step Start d ws = fitting (misfit heading ws 1) BadHeading (Ok (in_section d Variables))
 line_step Variables d [] = Ok (in_section d Gap)
 line_step Variables d (w ∷ ws) = variable_line d (w ∷ ws)
 line_step Gap d ws = fitting (misfit rule_heading ws 1) BadRuleHeading (Ok (in_section d Rules))
-line_step Rules d ws = rule_line d ws
+line_step Rules d ws = Err (mark UnknownRule 1)
 
 -- what a sheet that ends here lacks
 abbrev pub end_stop : Section → ℕ → Option Stop

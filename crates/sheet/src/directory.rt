@@ -1,7 +1,7 @@
 //! The directory of names, each kept by its place in the sheet.
 ghost use Rattle.std.specs.Prelude.{◌≡◌, map};
 ghost use Rattle.words.specs.Parts.{bytes};
-ghost use Rattle.sheet.specs.Names.{find};
+ghost use Rattle.sheet.specs.Sheets.{find};
 
 use words::parts::Part;
 

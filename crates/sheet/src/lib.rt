@@ -1,7 +1,7 @@
-//! Job sheets: variable lines and rule lines, read into a new job.
+//! Job sheets: variable lines, read into a new job up to the rules.
+#![tactic(auto)]
+
 pub mod directory;
 mod expect;
-mod fault;
-mod items;
 pub mod reader;
 pub mod refusal;

@@ -2,7 +2,7 @@
 ghost use Rattle.std.specs.Prelude.{◌≡◌};
 ghost use Rattle.sheet.specs.Refusals.{number, layer};
 
-use calls::refusal::Refusal;
+use job::refusal::Refusal;
 
 /// What is wrong with a line of a sheet, or with the sheet itself.
 #[derive(Clone, Copy, Debug)]
@@ -12,8 +12,6 @@ pub enum Reason {
     NameTaken,
     BadRuleHeading,
     UnknownRule,
-    BadItem,
-    BadRelation,
     BadHeading,
     Job(Refusal),
 }
@@ -29,8 +27,6 @@ impl Reason {
             Reason::NameTaken => 27,
             Reason::BadRuleHeading => 28,
             Reason::UnknownRule => 29,
-            Reason::BadItem => 30,
-            Reason::BadRelation => 31,
             Reason::BadHeading => 32,
             Reason::Job(refusal) => refusal.number(),
         }

@@ -1,4 +1,6 @@
 //! Where a clause set goes: the trait of a sink, and sinks of DIMACS text and of words.
+#![tactic(auto)]
+
 mod coding;
 mod decimals;
 pub mod header;

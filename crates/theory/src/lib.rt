@@ -1,4 +1,6 @@
 //! Why the clauses, the answers and the layouts of a job agree: specs and proofs, with no code but one function that names the theorems.
+#![tactic(auto)]
+
 ghost use Rattle.std.specs.Prelude.{◌≡◌};
 ghost use Rattle.theory.specs.Larger.{LargerKeeps};
 ghost use Rattle.theory.specs.Promise.{Promises, LaysOut};

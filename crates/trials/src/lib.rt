@@ -1,4 +1,6 @@
 //! Trials of the crates on examples.
+#![tactic(auto)]
+
 #[cfg(test)]
 mod of_compile;
 #[cfg(test)]

@@ -1,4 +1,3 @@
 pub mod Splitting
 pub mod Places
 pub mod Shaping
-pub mod Bounding

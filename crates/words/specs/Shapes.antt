@@ -1,5 +1,5 @@
--- The shapes of a word: a name, a number, a bound. Assumes nothing.
-use Rattle.std.specs.Prelude.{ℕ, ◌+◌, ◌-◌, ◌*◌, Bool, true, false, cond, ◌&&◌, ◌||◌, List, [], ◌∷◌, length, drop, Some, None, Option, ◌==◌, nat_le, nat_lt}
+-- The shapes of a word: a name, a number. Assumes nothing.
+use Rattle.std.specs.Prelude.{ℕ, ◌+◌, ◌-◌, ◌*◌, Bool, true, false, cond, ◌&&◌, ◌||◌, List, [], ◌∷◌, length, Some, None, Option, ◌==◌, nat_le, nat_lt}
 
 -- whether b is one of the bytes from low to high
 abbrev pub among : ℕ → ℕ → ℕ → Bool
@@ -44,30 +44,3 @@ digits_after n (b ∷ bs) = digits_after (n * 10 + (b - 48)) bs
 
 abbrev pub number : List ℕ → ℕ
 number w = digits_after 0 w
-
--- the bytes before the first that no name has, and the others
-abbrev pub front : List ℕ → List ℕ
-front [] = []
-front (b ∷ bs) = cond (in_name b) (b ∷ front bs) []
-
-abbrev pub back : List ℕ → List ℕ
-back [] = []
-back (b ∷ bs) = cond (in_name b) (back bs) (b ∷ bs)
-
--- whether bytes begin with >=, or with <
-abbrev pub begins_at_least : List ℕ → Bool
-begins_at_least [] = false
-begins_at_least (b ∷ []) = false
-begins_at_least (b ∷ (d ∷ bs)) = b == 62 && d == 61
-
-abbrev pub begins_below : List ℕ → Bool
-begins_below [] = false
-begins_below (b ∷ bs) = b == 60
-
--- the digits of a bound: what follows >= or <
-abbrev pub bound_digits : List ℕ → List ℕ
-bound_digits w = cond (begins_below (back w)) (drop 1 (back w)) (drop 2 (back w))
-
--- a bound: a name, then >= or <, then a number
-abbrev pub is_bound : List ℕ → Bool
-is_bound w = is_name (front w) && ((begins_below (back w) || begins_at_least (back w)) && is_number (bound_digits w))

@@ -1,4 +1,6 @@
 //! Lines and words of a text, and the shapes of single words.
+#![tactic(auto)]
+
 pub mod lines;
 pub mod parts;
 pub mod shapes;

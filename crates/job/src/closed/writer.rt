@@ -1,5 +1,4 @@
 //! A writer: what a closed job needs to be written, with all memory found.
-mod clauses;
 mod write;
 
 ghost use Rattle.std.specs.Prelude.{◌≡◌, length};
@@ -9,14 +8,16 @@ ghost use Rattle.ties.specs.Roots.{root_at};
 ghost use Rattle.ties.specs.Views.{roots_of};
 ghost use Rattle.cnf.specs.Numbered.{Numbers};
 
-use crate::closed::ClosedJob;
 use cnf::encode::Encoder;
+use order::variables::Variables;
+use ties::classes::Ties;
 
-/// A closed job, lent to its writer, and an encoder that knows the numbers of the free bits.
+/// The parts of a closed job, lent to its writer, and an encoder that knows the numbers of the free bits.
 #[derive(Drop)]
-pub struct Writer<'a, K> {
-    job: &'a ClosedJob<K>,
+pub struct Writer<'a> {
+    variables: &'a Variables,
+    ties: &'a Ties,
     encoder: Encoder,
-    ghost long: { length encoder.numbers.items ≡ total_bits (ranges_of job.now.variables) },
-    ghost numbered: { Numbers (root_at (roots_of job.now.ties)) encoder.numbers.items },
+    ghost long: { length encoder.numbers.items ≡ total_bits (ranges_of variables.now) },
+    ghost numbered: { Numbers (root_at (roots_of ties.now)) encoder.numbers.items },
 }

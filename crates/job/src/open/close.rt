@@ -5,26 +5,12 @@ ghost use Rattle.job.specs.Views.{open_view, closed_view};
 use super::OpenJob;
 use crate::closed::ClosedJob;
 
-impl<K> OpenJob<K> {
+impl OpenJob {
     /// Takes the open job and gives a closed one.
-    pub fn close(self) -> ClosedJob<K>
+    pub fn close(self) -> ClosedJob
         ensures { closed_view result ≡ open_view self }
     {
-        let OpenJob {
-            variables,
-            declared,
-            rows,
-            ties,
-            void,
-            kinds,
-        } = self;
-        ClosedJob {
-            variables,
-            declared,
-            rows,
-            ties,
-            void,
-            kinds,
-        }
+        let OpenJob { variables, ties } = self;
+        ClosedJob { variables, ties }
     }
 }

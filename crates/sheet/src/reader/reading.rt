@@ -3,18 +3,18 @@ ghost use Rattle.std.specs.Prelude.{◌≡◌, length, IfOk, Some, None, nat_lt}
 ghost use Rattle.words.specs.Parts.{bytes};
 ghost use Rattle.words.specs.Split.{words};
 ghost use Rattle.sheet.specs.Expects.{words_of};
-ghost use Rattle.sheet.specs.Lines.{heading, rule_heading};
-ghost use Rattle.sheet.specs.Reads.{Fits, Declares, Steps, Reports};
-ghost use Rattle.sheet.specs.Sheets.{new_draft, reading, line_step, variable_line, outcome, end_stop};
+ghost use Rattle.sheet.specs.Lines.{misfit, heading, rule_heading};
+ghost use Rattle.sheet.specs.Reads.{Fits, Declares, Steps, Reports, passed};
+ghost use Rattle.sheet.specs.Sheets.{reading, line_step, variable_line, outcome, end_stop};
 ghost use Rattle.sheet.specs.Halting.{Halts};
 ghost use Rattle.sheet.specs.Views.{draft_of, outcome_of};
 
 use super::{Reader, Section, Sheet};
 use crate::directory::find;
 use crate::expect::{expect_end, expect_name, expect_number, expect_word};
-use crate::fault::{LineFault, pass_up};
 use crate::refusal::{Reason, Stop};
 use job::open::OpenJob;
+use job::refusal::Fault;
 use std::alloc::{AllocError, Global};
 use words::lines::{next_line, next_word};
 use words::parts::Part;
@@ -24,6 +24,23 @@ fn too_long(text: &[u8]) -> bool
     ensures { result ≡ nat_lt 65535 (length text.now) }
 {
     text.len() > 65535
+}
+
+/// Why a line was not read: it is refused at a word, or there is no memory.
+#[derive(Clone, Copy)]
+pub enum LineFault {
+    Refused(Reason, usize),
+    NoMemory,
+}
+
+// The job's refusals pass up whole, at word 1.
+fn pass_up(fault: Fault) -> LineFault
+    ensures { result ≡ passed fault }
+{
+    match fault {
+        Fault::Refused(refusal) => LineFault::Refused(Reason::Job(refusal), 1),
+        Fault::NoMemory => LineFault::NoMemory,
+    }
 }
 
 /// Whether a line has words.
@@ -72,22 +89,6 @@ fn variable_words(text: &[u8], line: Part) -> Result<(Part, u16, u16), usize>
     Ok((name, low, high))
 }
 
-impl<'a> Reader<'a> {
-    // A reader that has read nothing.
-    fn new(heap: Global, text: &'a [u8]) -> Reader<'a>
-        ensures text { result.text.now ≡ text.now }
-        ensures draft { draft_of result ≡ new_draft }
-    {
-        Reader {
-            text,
-            heap,
-            job: OpenJob::new(heap),
-            names: Vec::new(heap),
-            section: Section::Start,
-        }
-    }
-}
-
 impl Reader<'_> {
     // A variable line: a name and two numbers, the name new, and the job takes the declaration.
     fn variable(&mut self, line: Part) -> Result<(), LineFault>
@@ -133,7 +134,7 @@ impl Reader<'_> {
                 }
                 self.section = Section::Rules;
             }
-            (Section::Rules, _) => return self.rule(line),
+            (Section::Rules, _) => return Err(LineFault::Refused(Reason::UnknownRule, 1)),
         }
         Ok(())
     }
@@ -201,7 +202,12 @@ impl Sheet {
     pub fn read(heap: Global, text: &[u8]) -> Result<Sheet, AllocError>
         ensures { IfOk result (λ s. outcome_of text.now s ≡ reading text.now) }
     {
-        let mut reader = Reader::new(heap, text);
+        let mut reader = Reader {
+            text,
+            job: OpenJob::new(heap),
+            names: Vec::new(heap),
+            section: Section::Start,
+        };
         if too_long(text) {
             return Ok(reader.stopped(Reason::TooLong, 1, 1));
         }

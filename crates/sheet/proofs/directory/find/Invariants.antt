@@ -1,6 +1,6 @@
 use Rattle.std.proofs.Common.{◌≡◌, map, drop}
 use Rattle.words.specs.Parts.{bytes}
-use Rattle.sheet.specs.Names.{find, find_from}
+use Rattle.sheet.specs.Sheets.{find, find_from}
 use Rattle.sheet.proofs.directory.find.Given as goal
 
 abbrev pub invariant-loop-k : goal.invariant-loop-k

@@ -1,31 +1,35 @@
-use Rattle.std.proofs.Common.{true, vec_items, refl, arith}
-use Rattle.order.specs.Variables.{ranges_of}
-use Rattle.ties.specs.Views.{roots_of}
-use Rattle.calls.proofs.Declaring.{grown, pushed, length_more, bits_more, declared}
-use Rattle.job.specs.Views.{open_view, root_of}
+use Rattle.std.proofs.Common.{◌≡◌, ◌+◌, ◌-◌, ◌<◌, ◌≤◌, true, [], ◌∷◌, ◌++◌, length, sym, refl, ap, ◌∙◌, arith}
+use Rattle.order.specs.Ranges.{total_bits}
+use Rattle.order.specs.Variables.{Spare, few_variables, few_bits}
+use Rattle.job.proofs.Asking.{no_error}
+use Rattle.job.proofs.Declaring.{grown, added_bits, declared}
 use Rattle.job.proofs.open.OpenJob.declare.Goals as goal
 
-pub invariant-of-self-in-Ok : goal.invariant-of-self-in-Ok
-invariant-of-self-in-Ok g c =
+pub invariant-of-self-2 : goal.invariant-of-self-2
+invariant-of-self-2 c =
     let self = c.args.self.now in
-    let r = c.in-Some.range in
-    let rs' = ranges_of c.add.new.self in
-    let roots = grown c.grow.result (roots_of self.ties) (roots_of c.grow.new.self) _ c.if-is-err-3.ensures.value c.grow.ensures.grows in
-    let more = pushed (ranges_of self.variables) (ranges_of c.reserve.new.self) rs' r c.reserve.ensures.ranges c.in-Ok.ensures.adds.3 in
-    (omega (arith, roots.long, self.level, bits_more _ rs' r more), (omega (arith, self.beside, length_more _ rs' r more), tt))
+    let old = c.reserve.ensures.ranges in
+    let kept = ap length old in
+    let bits = ap total_bits old in
+    let room = no_error (Spare c.reserve.new.self 1) (Spare self.variables 1 → ⊥) c.reserve.result c.if-is-err.ensures.value c.reserve.ensures.room in
+    let roots = grown c.grow.result _ _ _ c.if-is-err-2.ensures.value c.grow.ensures.grows in
+    let few : length c.reserve.new.self.ranges.items < 512 = omega (arith, kept, c.len.ensures) in
+    let small : total_bits c.reserve.new.self.ranges.items + (c.in-Some.range.high - c.in-Some.range.low) ≤ 4096 = omega (arith, bits) in
+    let more = added_bits c.add.result _ _ c.in-Some.range c.add.ensures.adds (c.add.ensures.spare room) few small in
+    (omega (arith, roots.long, self.level, bits, more), tt)
 
 pub returns-in-Ok : goal.returns-in-Ok
-returns-in-Ok g c =
+returns-in-Ok c =
     let self = c.args.self.now in
-    let r = c.in-Some.range in
-    let old = ranges_of c.reserve.new.self in
-    let rs' = ranges_of c.add.new.self in
-    let marks = vec_items c.push-reserved.new.self in
+    let old = c.reserve.ensures.ranges in
     let added = c.in-Ok.ensures.adds in
-    let roots = grown c.grow.result (roots_of self.ties) (roots_of c.grow.new.self) _ c.if-is-err-3.ensures.value c.grow.ensures.grows in
-    let more = pushed (ranges_of self.variables) old rs' r c.reserve.ensures.ranges added.3 in
-    let marked = pushed (vec_items self.declared) (vec_items c.reserve-else-is-err.new.self) marks true c.reserve-else-is-err.ensures.items c.push-reserved.ensures.items in
+    let roots = grown c.grow.result _ _ _ c.if-is-err-2.ensures.value c.grow.ensures.grows in
     record {
-      answers = declared (open_view self) c.args.low c.args.high c.in-Ok.place r old rs' marks (root_of c.grow.new.self) c.in-Some.ensures c.reserve.ensures.ranges added.0 added.1 added.2 more marked roots.roots;
+      answers = declared _ _ c.args.low c.args.high c.in-Ok.place c.in-Some.range c.in-Some.ensures
+          (sym (ap (λ rs. few_variables rs 1) old) ∙ added.0)
+          (sym (ap (λ rs. few_bits rs (c.in-Some.range.high - c.in-Some.range.low)) old) ∙ added.1)
+          (added.2 ∙ ap length old)
+          (added.3 ∙ ap (λ rs. rs ++ c.in-Some.range ∷ []) old)
+          roots.roots;
       memory = λ _. refl;
     }

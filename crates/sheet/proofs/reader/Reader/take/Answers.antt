@@ -17,12 +17,3 @@ returns-in-Variables-Wordy c =
           subst (λ s. Steps (line_step s d ws) c.variable.result d after) (sym c.in-Variables-Wordy.is-0)
           (subst (λ v. Steps v c.variable.result d after) (sym (wordy_line d ws c.in-Variables-Wordy.ensures)) c.variable.ensures.steps);
     }
-
-pub returns-in-Rules-default : goal.returns-in-Rules-default
-returns-in-Rules-default c =
-    let d = draft_of c.args.self.now in
-    let ws = words_of c.args.self.now.text.now c.args.line in
-    record {
-      text = c.rule.ensures.text;
-      steps = subst (λ s. Steps (line_step s d ws) c.rule.result d (draft_of c.rule.new.self)) (sym c.in-Rules-default.is-0) c.rule.ensures.steps;
-    }

@@ -1,19 +1,13 @@
-use Rattle.std.proofs.Common.{map, Ok, Err, vec_items, sym, refl, ap, ◌∙◌, arith}
+use Rattle.std.proofs.Common.{◌≡◌, false, map, is_some, Ok, Err, vec_items, sym, refl, ap, ◌∙◌, subst}
 use Rattle.words.specs.Parts.{bytes}
-use Rattle.calls.specs.Declares.{declaring}
 use Rattle.sheet.specs.Expects.{words_of}
-use Rattle.sheet.specs.Sheets.{Draft, variable_line}
+use Rattle.sheet.specs.Lines.{word_at}
+use Rattle.sheet.specs.Reads.{Steps}
+use Rattle.sheet.specs.Sheets.{Draft, find, variable_line}
 use Rattle.job.specs.Views.{open_view}
 use Rattle.sheet.specs.Views.{draft_of}
-use Rattle.sheet.proofs.Growing.{declare_grows}
-use Rattle.sheet.proofs.LineSteps.{line_declares, call_faults, names_push, same_draft, unfound}
+use Rattle.sheet.proofs.LineSteps.{line_declares, line_faults, names_push, same_draft}
 use Rattle.sheet.proofs.reader.Reader.variable.Goals as goal
-
-pub invariant-of-self-in-Ok-declare : goal.invariant-of-self-in-Ok-declare
-invariant-of-self-in-Ok-declare c =
-    let self = c.args.self.now in
-    let grown = declare_grows (open_view self.job) (open_view c.declare.new.self) c.from.result c.from-2.result c.in-Ok-declare.field-0 c.in-Ok-declare.ensures.answers in
-    (omega (arith, self.named, grown, c.push-reserved.ensures.len, c.reserve.ensures.len), tt)
 
 pub returns-in-Ok-declare : goal.returns-in-Ok-declare
 returns-in-Ok-declare c =
@@ -21,7 +15,8 @@ returns-in-Ok-declare c =
     let text = self.text.now in
     let ws = words_of text c.args.line in
     let found = c.in-Ok.ensures in
-    let new = unfound text c.find.ensures c.deref.ensures.value c.of.ensures found.1 c.if-is-some.ensures in
+    let new : is_some (find (map (bytes text) (vec_items self.names)) (word_at ws 0)) ≡ false =
+    sym (c.if-is-some.ensures ∙ ap is_some (c.find.ensures ∙ ap (λ ps. find (map (bytes text) ps) c.of.result.now) c.deref.ensures.value ∙ ap (find (map (bytes text) (vec_items self.names))) (c.of.ensures ∙ found.1))) in
     record {
       text = refl;
       steps =
@@ -35,9 +30,11 @@ returns-in-Err-declare c =
     let text = self.text.now in
     let ws = words_of text c.args.line in
     let found = c.in-Ok.ensures in
-    let new = unfound text c.find.ensures c.deref.ensures.value c.of.ensures found.1 c.if-is-some.ensures in
+    let new : is_some (find (map (bytes text) (vec_items self.names)) (word_at ws 0)) ≡ false =
+    sym (c.if-is-some.ensures ∙ ap is_some (c.find.ensures ∙ ap (λ ps. find (map (bytes text) ps) c.of.result.now) c.deref.ensures.value ∙ ap (find (map (bytes text) (vec_items self.names))) (c.of.ensures ∙ found.1))) in
     let after : Draft = record { view = open_view c.declare.new.self; names = map (bytes text) (vec_items c.reserve.new.self); section = self.section } in
+    let steps = line_faults (draft_of self) after ws c.from.result c.from-2.result c.in-Err-declare.fault found.0 new (c.from.ensures ∙ found.2) (c.from-2.ensures ∙ found.3) c.in-Err-declare.ensures.answers (ap (map (bytes text)) c.reserve.ensures.items) refl in
     record {
       text = refl;
-      steps = call_faults (variable_line (draft_of self) ws) (declaring (open_view self.job) c.from.result c.from-2.result) (draft_of self) after c.in-Err-declare.fault c.pass-up.result (λ q e. line_declares (draft_of self) ws c.from.result c.from-2.result (Err q) found.0 new (c.from.ensures ∙ found.2) (c.from-2.ensures ∙ found.3) e) c.in-Err-declare.ensures.answers (ap (map (bytes text)) c.reserve.ensures.items) refl c.pass-up.ensures;
+      steps = subst (λ q. Steps (variable_line (draft_of self) ws) (Err q) (draft_of self) after) (sym c.pass-up.ensures) steps;
     }

@@ -1,22 +1,20 @@
-use Rattle.std.proofs.Common.{◌≡◌, Ok, Err, sym, ap, ◌∙◌, subst, arith}
+use Rattle.std.proofs.Common.{◌≡◌, Ok, Err, sym, refl, ap, ◌∙◌, subst, arith}
 use Rattle.std.proofs.lemmas.Bool.{ltb-true, ltb-false}
 use Rattle.words.specs.Parts.{bytes}
 use Rattle.words.specs.Split.{words}
 use Rattle.sheet.specs.Reads.{Steps}
 use Rattle.sheet.specs.Sheets.{reading, line_step}
 use Rattle.sheet.specs.Views.{draft_of, outcome_of}
-use Rattle.sheet.proofs.Rounds.{reading_short, reading_long, goes_on, halts, ends}
+use Rattle.sheet.proofs.Rounds.{starts, reading_short, reading_long, goes_on, halts, ends}
 use Rattle.sheet.proofs.reader.Sheet.read.Goals as goal
 
 pub loop-part-init : goal.loop-part-init
 loop-part-init c =
     let short = ltb-false _ _ (sym c.if-too-long.ensures) in
-    (reading_short c.args.text.now _ c.new-reader.ensures.draft short, c.new-reader.ensures.text, short, omega arith, omega arith)
+    (reading_short c.args.text.now _ (starts c.args.text.now _ _ c.new.ensures c.new-2.ensures.items) short, refl, short, omega arith, omega arith)
 
 pub returns-then-too-long : goal.returns-then-too-long
-returns-then-too-long c =
-    sym (ap (λ t. outcome_of t c.stopped.result) c.new-reader.ensures.text) ∙ c.stopped.ensures
-    ∙ sym (reading_long c.args.text.now _ c.new-reader.ensures.draft (ltb-true _ _ (sym c.if-too-long.ensures)))
+returns-then-too-long c = c.stopped.ensures ∙ sym (reading_long c.args.text.now _ (starts c.args.text.now _ _ c.new.ensures c.new-2.ensures.items) (ltb-true _ _ (sym c.if-too-long.ensures)))
 
 pub returns-in-Err : goal.returns-in-Err
 returns-in-Err c =

@@ -1,38 +1,49 @@
-use Rattle.std.proofs.Common.{sym, refl, ◌∙◌}
-use Rattle.calls.proofs.BasedKinds.{lawful_based}
-use Rattle.calls.proofs.Writing.{job_measured, file_by, no_room, whole}
-use Rattle.job.specs.Views.{writer_view, kinds_of}
+use Rattle.std.proofs.Common.{◌≡◌, ◌+◌, ◌<◌, ◌≤◌, Ok, sym, refl, ap, ◌∙◌, subst, arith}
+use Rattle.std.proofs.lemmas.Bool.{ltb-true, ltb-false}
+use Rattle.sink.specs.Sinks.{with_header}
+use Rattle.job.specs.Views.{writer_view, root_of}
+use Rattle.job.specs.Writes.{output, header_of, cost_of}
+use Rattle.job.proofs.Writing.{output_few, output_small, variables_small, header_proper, header_made, sum_made, written_all_of, no_space}
 use Rattle.job.proofs.closed.writer.Writer.write.Goals as goal
 
-pub returns-then-job : goal.returns-then-job
-returns-then-job g c = λ _. c.write-void.ensures (kinds_of g.K.Kinds.known g.K.Kinds.meaning) (writer_view c.args.self) c.if-job.true
+pub overflow-cast-header : goal.overflow-cast-header
+overflow-cast-header g c =
+    omega (arith, variables_small c.args.self.variables.now, output_few (writer_view c.args.self), c.measure-encoder.ensures.clauses)
+
+pub overflow-add-header-cost : goal.overflow-add-header-cost
+overflow-add-header-cost g c =
+    let self = c.args.self in
+    let k = g.S.Sink.costs in
+    let v = writer_view self in
+    let free = c.free-free.ensures v.ranges v.root (record { long = self.long; numbered = self.numbered }) in
+    let head = header_made v _ _ free c.measure-encoder.ensures.clauses in
+    let sum = sum_made k v _ _ _ head c.header-cost.ensures c.measure-encoder.ensures.cost in
+    let bits = variables_small self.variables.now in
+    let law = g.met.S.Sink.lawful in
+    let small = output_small k law v self.ties.now.named self.ties.now.fixed bits in
+    let first = law.small_header (header_of v) (header_proper v bits) in
+    omega (arith, sum, small, first, bits, output_few v)
 
 pub returns-then-lacks : goal.returns-then-lacks
-returns-then-lacks g c = λ seated.
+returns-then-lacks g c =
     let self = c.args.self in
-    let job = self.job.now in
+    let k = g.S.Sink.costs in
     let v = writer_view self in
-    let k = kinds_of g.K.Kinds.known g.K.Kinds.meaning in
-    let law = lawful_based (record { known = g.K.Kinds.known; meaning = g.K.Kinds.meaning }) g.met.K.Kinds.lawful in
-    let u = g.S.Sink.costs in
-    let s = g.S.Sink.state c.args.sink.now in
     let free = c.free-free.ensures v.ranges v.root (record { long = self.long; numbered = self.numbered }) in
-    let counted = c.measure-encoder.ensures in
-    let file = job_measured k.meaning law job.variables job.ties job.rows seated u g.met.S.Sink.lawful free (counted.clauses seated) c.count-of.ensures (counted.cost seated) c.header-cost.ensures c.saturating-add.ensures in
-    (file_by k u v s c.if-job.false ∙ no_room file s (sym c.if-has-header.ensures) (sym c.if-lacks.ensures), refl)
+    let head = header_made v _ _ free c.measure-encoder.ensures.clauses in
+    let sum = sum_made k v _ _ _ head c.header-cost.ensures c.measure-encoder.ensures.cost in
+    (no_space k v (g.S.Sink.state c.args.sink.now) (sym c.if-has-header.ensures) (omega (arith, sum, ltb-true _ _ (sym c.if-lacks.ensures))), refl)
 
 pub returns : goal.returns
-returns g c = λ seated.
+returns g c =
     let self = c.args.self in
-    let job = self.job.now in
+    let k = g.S.Sink.costs in
     let v = writer_view self in
-    let k = kinds_of g.K.Kinds.known g.K.Kinds.meaning in
-    let law = lawful_based (record { known = g.K.Kinds.known; meaning = g.K.Kinds.meaning }) g.met.K.Kinds.lawful in
-    let u = g.S.Sink.costs in
     let s = g.S.Sink.state c.args.sink.now in
     let free = c.free-free.ensures v.ranges v.root (record { long = self.long; numbered = self.numbered }) in
-    let counted = c.measure-encoder.ensures in
-    let file = job_measured k.meaning law job.variables job.ties job.rows seated u g.met.S.Sink.lawful free (counted.clauses seated) c.count-of.ensures (counted.cost seated) c.header-cost.ensures c.saturating-add.ensures in
-    let none = sym c.if-has-header.ensures in
-    file_by k u v s c.if-job.false
-    ∙ whole file s none _ _ (g.met.S.Sink.headed c.args.sink.now none) (sym c.if-lacks.ensures) c.take-header.ensures.after (c.put.ensures (counted.ready seated) seated)
+    let head = header_made v _ _ free c.measure-encoder.ensures.clauses in
+    let sum = sum_made k v _ _ _ head c.header-cost.ensures c.measure-encoder.ensures.cost in
+    let bits = variables_small self.variables.now in
+    let taken = c.take-header.ensures.after ∙ ap (with_header k s) head in
+    let all = written_all_of k g.met.S.Sink.lawful v self.ties.now.named self.ties.now.fixed bits s _ _ (g.met.S.Sink.headed c.args.sink.now) (sym c.if-has-header.ensures) (omega (arith, sum, ltb-false _ _ (sym c.if-lacks.ensures))) taken c.put.ensures in
+    all ∙ (λ i. Ok (sym head i, g.S.Sink.state c.put.new.sink))

@@ -1,25 +1,25 @@
-use Rattle.std.proofs.Common.{arith}
-use Rattle.order.specs.Variables.{ranges_of}
-use Rattle.rows.specs.Rows.{rows_of}
+use Rattle.std.proofs.Common.{◌≡◌, ◌≤◌, length, sym, refl, ap, ◌∙◌, subst, arith}
+use Rattle.order.specs.Orders.{orders}
+use Rattle.order.specs.Ranges.{total_bits}
+use Rattle.cnf.specs.Encoded.{Ready}
+use Rattle.cnf.specs.Passed.{total_cost}
 use Rattle.cnf.proofs.Passing.{counted_all, ready_numbers}
-use Rattle.calls.specs.Jobs.{Seated}
-use Rattle.calls.specs.Writes.{clauses_of, written_of}
-use Rattle.calls.proofs.Writing.{job_short, job_proper, clauses_small}
-use Rattle.job.specs.Views.{root_of}
+use Rattle.job.specs.Views.{root_of, parts_view}
+use Rattle.job.specs.Writes.{output}
+use Rattle.job.proofs.Writing.{orders_short, output_few, output_small, variables_small}
 use Rattle.job.proofs.closed.writer.write.measure.Goals as goal
 
 pub returns : goal.returns
-unfolding written_of
+unfolding output
 returns g c =
-    let m = g.K.Kinds.meaning in
-    let law = g.met.K.Kinds.lawful in
-    let u = g.S.Sink.costs in
     let v = c.args.variables.now in
     let t = c.args.ties.now in
-    let r = c.args.rows.now in
-    let all = λ (seated : Seated m (ranges_of v) (rows_of r)). counted_all root_of u (clauses_of m (ranges_of v) (root_of t) (rows_of r)) _ _ c.requires (job_short m law v t r seated) c.visit-clauses.ensures in
+    let all = counted_all root_of g.S.Sink.costs (orders v.ranges.items) _ _ c.requires (orders_short v.ranges.items) c.visit-orders.ensures in
+    let bits = variables_small v in
+    let few = output_few (parts_view v t) in
+    let small = output_small g.S.Sink.costs g.met.S.Sink.lawful (parts_view v t) t.named t.fixed bits in
     record {
-      ready = λ seated. ready_numbers _ _ c.args.encoder _ (all seated).numbers c.requires;
-      clauses = λ seated. omega (arith, (all seated).clauses, (job_proper m law v t r seated).few);
-      cost = λ seated. omega (arith, (all seated).cost, clauses_small _ _ (job_proper m law v t r seated) u g.met.S.Sink.lawful);
+      ready = ready_numbers _ _ c.args.encoder _ all.numbers c.requires;
+      clauses = omega (arith, all.clauses, few, bits);
+      cost = omega (arith, all.cost, small, few, bits);
     }
