@@ -1,5 +1,5 @@
 -- Costs that are added up, and sinks that are given clauses, one clause after another. Assumes nothing.
-use Rattle.std.proofs.Common.{◌≡◌, ℕ, ◌+◌, ◌^◌, min, List, [], ◌∷◌, ◌++◌, length, sym, refl, ap, ◌∙◌, subst, arith}
+use Rattle.std.proofs.Common.{◌≡◌, ℕ, ◌+◌, min, List, [], ◌∷◌, length, sym, ap, ◌∙◌, arith}
 use Rattle.sink.specs.declared.lit.Lit.{Lit}
 use Rattle.sink.specs.Sinks.{Costs, State, capped, with_clause}
 use Rattle.cnf.specs.Passed.{total_cost, with_clauses}

@@ -1,15 +1,15 @@
 -- The literals of a job, and their roots, are constants or bits of the job. Assumes nothing.
-use Rattle.std.proofs.Common.{◌≡◌, ℕ, zero, suc, ◌+◌, ◌-◌, ◌<◌, ◌≤◌, Bool, true, false, cond, ◌&&◌, ◌||◌, ltb, leb, ◌⊎◌, List, [], ◌∷◌, ◌++◌, map, length, get_or, fold, sym, refl, ap, ◌∙◌, inl, inr, arith}
+use Rattle.std.proofs.Common.{◌≡◌, ℕ, ◌+◌, ◌-◌, ◌<◌, ◌≤◌, true, false, cond, ◌||◌, ltb, leb, List, [], ◌∷◌, ◌++◌, length, fold, sym, refl, ap, ◌∙◌, inl, inr, arith}
 use Rattle.std.proofs.lemmas.List.{get_or_past}
-use Rattle.std.proofs.lemmas.Bool.{and_from, and_parts, cases_Bool, cases_lt, leb-true, ltb-false, ltb-true}
+use Rattle.std.proofs.lemmas.Bool.{and_from, and_parts, cases_Bool, cases_lt, ltb-false}
 use Rattle.std.proofs.lemmas.Bool.Decides.{nat_tests}
 use Rattle.order.specs.declared.bound.Bound.{Bound}
 use Rattle.order.specs.declared.literal.Literal.{Literal}
 use Rattle.order.specs.declared.literal.Literal.TheVariants.{False, True, Bit, Not}
 use Rattle.order.specs.declared.range.Range.{Range}
-use Rattle.order.specs.Bounds.{reach, literal, literals}
+use Rattle.order.specs.Bounds.{reach, literal}
 use Rattle.order.specs.Literals.{opposite, same}
-use Rattle.order.specs.Ranges.{low, high, width, first, total_bits, no_range}
+use Rattle.order.specs.Ranges.{low, high, first, total_bits, no_range}
 use Rattle.order.proofs.Ranging.{first_rises}
 use Rattle.ties.specs.Roots.{root_by, there, Named}
 use Rattle.cnf.specs.Numbered.{all_there, rooted}

@@ -1,16 +1,16 @@
 -- The literals that a clause has kept so far. Assumes nothing.
-use Rattle.std.proofs.Common.{◌≡◌, ℕ, zero, suc, ◌+◌, ◌<◌, ◌≤◌, Bool, true, false, cond, not, ◌&&◌, ◌||◌, ◌⊎◌, List, [], ◌∷◌, ◌++◌, length, get_or, take, fold, sym, refl, ap, ◌∙◌, subst, inl, inr, arith}
+use Rattle.std.proofs.Common.{◌≡◌, ℕ, zero, suc, ◌+◌, ◌<◌, ◌≤◌, Bool, true, false, cond, not, ◌&&◌, ◌||◌, ◌⊎◌, List, [], ◌∷◌, ◌++◌, length, get_or, take, sym, refl, ap, ◌∙◌, inl, inr, arith}
 use Rattle.std.proofs.lemmas.List.{take_more, take_all}
 use Rattle.std.proofs.lemmas.List.Sums.{fold_push}
-use Rattle.std.proofs.lemmas.Bool.{cases_Bool, both_ways, or_left, or_right}
+use Rattle.std.proofs.lemmas.Bool.{both_ways, or_left, or_right}
 use Rattle.order.specs.declared.literal.Literal.{Literal}
 use Rattle.order.specs.declared.literal.Literal.TheVariants.{False, True}
 use Rattle.order.specs.Literals.{opposite, same}
-use Rattle.order.proofs.Signs.{same_tells, same_from_equal, equal_from_same, opposite_opposite, opposite_apart}
+use Rattle.order.proofs.Signs.{same_tells, same_from_equal, opposite_opposite, opposite_apart}
 use Rattle.cnf.specs.Reduced.{has, add, struck, opposed, written}
 use Rattle.cnf.specs.declared.role.Role.TheVariants.{Settles, Idle, New}
 use Rattle.cnf.specs.Roles.{Plays}
-use Rattle.cnf.proofs.Reducing.{has_append, has_struck, has_opposed, opposed_has}
+use Rattle.cnf.proofs.Reducing.{has_append, has_struck, has_opposed}
 
 -- of the first i literals of c, `kept` is left, and there is no reason to leave c out
 pub record Kept (c : List Literal) (i : ℕ) (kept : List Literal) : Type 0 where

@@ -1,5 +1,5 @@
 -- What is written fits under the header: short clauses, of the numbers of free bits. Assumes nothing.
-use Rattle.std.proofs.Common.{◌≡◌, ℕ, zero, suc, ◌+◌, ◌-◌, ◌<◌, ◌≤◌, Bool, true, false, cond, not, ◌&&◌, ◌||◌, ltb, leb, ◌⊎◌, List, [], ◌∷◌, ◌++◌, map, length, fold, sym, refl, ap, ◌∙◌, subst, inl, inr, arith}
+use Rattle.std.proofs.Common.{◌≡◌, ℕ, zero, suc, ◌+◌, ◌<◌, ◌≤◌, Bool, true, false, cond, ◌&&◌, ◌||◌, ltb, leb, ◌⊎◌, List, [], ◌∷◌, ◌++◌, map, length, fold, sym, refl, ap, ◌∙◌, subst, inl, inr, arith}
 use lib.ListN.{length-map}
 use Rattle.std.specs.List.{AllByRecursion as All}
 use Rattle.std.proofs.ByRecursion.{All-append}
@@ -14,11 +14,10 @@ use Rattle.order.specs.Bounds.{literals}
 use Rattle.order.specs.Literals.{opposite, same}
 use Rattle.order.specs.Ranges.{total_bits}
 use Rattle.order.proofs.Signs.{same_from_equal, same_tells, opposite_opposite}
-use Rattle.ties.specs.Roots.{root_by, free_to, own, there, count_below, Named, Fixed}
-use Rattle.sink.specs.declared.lit.Lit.{Lit}
+use Rattle.ties.specs.Roots.{root_by, free_to, there, Named, Fixed}
 use Rattle.sink.specs.Sinks.{proper_lits, proper_clause}
 use Rattle.cnf.specs.Numbered.{lit, rooted, written_clause, written_all, all_there}
-use Rattle.cnf.specs.Reduced.{has, add, struck, opposed, written}
+use Rattle.cnf.specs.Reduced.{has, add, struck, opposed}
 use Rattle.cnf.proofs.Inside.{rooted_there}
 use Rattle.cnf.proofs.Rooting.{length_rooted}
 

@@ -1,8 +1,8 @@
 -- Which literals a clause has once false and repeats are struck out. Assumes nothing.
-use Rattle.std.proofs.Common.{◌≡◌, Bool, true, false, cond, not, ◌&&◌, ◌||◌, List, [], ◌∷◌, ◌++◌, fold, sym, refl, ap, ◌∙◌, inl, inr, arith}
+use Rattle.std.proofs.Common.{◌≡◌, Bool, true, false, not, ◌&&◌, ◌||◌, List, [], ◌∷◌, ◌++◌, fold, sym, refl, ap, ◌∙◌, inl, inr, arith}
 use Rattle.std.proofs.lemmas.Bool.{cases_Bool, or_cases, or_left, or_right}
 use Rattle.order.specs.declared.literal.Literal.{Literal}
-use Rattle.order.specs.declared.literal.Literal.TheVariants.{False, True}
+use Rattle.order.specs.declared.literal.Literal.TheVariants.{False}
 use Rattle.order.specs.Literals.{opposite, same}
 use Rattle.order.proofs.Signs.{same_itself, equal_from_same, opposite_opposite, opposite_apart}
 use Rattle.cnf.specs.Reduced.{has, add, struck, opposed}

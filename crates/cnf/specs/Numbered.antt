@@ -1,5 +1,5 @@
 -- The numbers of the free bits, and the clauses of the file. Assumes nothing.
-use Rattle.std.specs.Prelude.{◌≡◌, ℕ, suc, ◌<◌, ◌≤◌, Bool, true, false, ◌&&◌, List, [], ◌∷◌, ◌++◌, map, length, slice_index}
+use Rattle.std.specs.Prelude.{◌≡◌, ℕ, suc, ◌<◌, Bool, true, false, ◌&&◌, List, [], ◌∷◌, map, length, slice_index}
 use Rattle.order.specs.declared.range.Range.{Range}
 use Rattle.order.specs.Between.{joined}
 use Rattle.order.specs.declared.bound.Bound.{Bound}

@@ -2,7 +2,6 @@
 use Rattle.std.specs.Prelude.{◌≡◌, ℕ, List, [], ◌∷◌, ◌++◌, Some, None, Ok, Err, codes, decimal}
 use Rattle.sink.specs.Text.{text_costs}
 use Rattle.sink.specs.Views.{text_state, fresh}
-use Rattle.job.specs.declared.refusal.Refusal.{Refusal}
 use Rattle.job.specs.Writes.{writing}
 use Rattle.sink.specs.declared.header.Header.{Header}
 use Rattle.sheet.specs.Sheets.{reading}

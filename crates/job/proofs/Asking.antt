@@ -1,5 +1,5 @@
 -- Questions that are put one after another. Assumes nothing.
-use Rattle.std.proofs.Common.{◌≡◌, Bool, true, false, cond, List, [], ◌∷◌, is_err, Some, None, Ok, Err, Result, refl, ap, ◌∙◌, arith, MatchResult}
+use Rattle.std.proofs.Common.{◌≡◌, true, false, cond, List, [], ◌∷◌, is_err, Some, None, Ok, Err, Result, refl, ap, ◌∙◌, arith, MatchResult}
 use Rattle.std.specs.List.{AllByRecursion as All}
 use Rattle.job.specs.Questions.{Question, first_no}
 

@@ -1,7 +1,7 @@
 -- One variable more: its bits, and the view of the job. Assumes nothing.
-use Rattle.std.proofs.Common.{◌≡◌, ℕ, ◌+◌, ◌-◌, ◌<◌, ◌≤◌, Bool, true, false, cond, ◌&&◌, leb, List, [], ◌∷◌, ◌++◌, length, is_err, Some, None, Ok, Err, Option, Result, sym, refl, ap, ◌∙◌, inl, inr, arith}
+use Rattle.std.proofs.Common.{◌≡◌, ℕ, ◌+◌, ◌-◌, ◌<◌, ◌≤◌, Bool, true, false, cond, List, [], ◌∷◌, ◌++◌, length, is_err, Some, None, Ok, Err, Result, sym, refl, ap, ◌∙◌, arith}
 use Rattle.std.proofs.lemmas.List.{length_push}
-use Rattle.std.proofs.lemmas.Bool.{both_ways, cases_Bool, le-leb}
+use Rattle.std.proofs.lemmas.Bool.{both_ways, le-leb}
 use Rattle.std.proofs.lemmas.Bool.Decides.{nat_tests}
 use Rattle.order.specs.declared.literal.Literal.{Literal}
 use Rattle.order.specs.declared.range.Range.{Range}
@@ -12,9 +12,8 @@ use Rattle.order.specs.Variables.{Adds, answered, few_variables, few_bits}
 use Rattle.order.proofs.Ranging.{first_push_all}
 use Rattle.ties.specs.declared.classes.growing.GrowError.{GrowError}
 use Rattle.ties.specs.Growth.{Grows}
-use Rattle.ties.specs.Roots.{Grown, root_at}
-use Rattle.job.specs.declared.refusal.Refusal.{Refusal}
-use Rattle.job.specs.Questions.{verdict, first_no}
+use Rattle.ties.specs.Roots.{Grown}
+use Rattle.job.specs.Questions.{verdict}
 use Rattle.job.specs.Declares.{declaring, declare_questions}
 use Rattle.job.specs.View.{View, with_variable}
 use Rattle.job.proofs.Asking.{all_yes}

@@ -1,9 +1,9 @@
 -- What is written fits: few clauses, small costs, and a sink that takes them all. Assumes nothing.
-use Rattle.std.proofs.Common.{◌≡◌, ℕ, zero, suc, ◌+◌, ◌-◌, ◌*◌, ◌<◌, ◌≤◌, Bool, true, false, cond, not, ◌&&◌, ◌||◌, ltb, leb, List, [], ◌∷◌, ◌++◌, map, length, is_some, Some, None, Ok, Err, Option, sym, refl, ap, ◌∙◌, subst, inl, inr, mul-suc, arith, lit≤, length-append}
+use Rattle.std.proofs.Common.{◌≡◌, ℕ, zero, suc, ◌+◌, ◌-◌, ◌*◌, ◌<◌, ◌≤◌, Bool, true, false, cond, not, ◌&&◌, ◌||◌, ltb, leb, List, [], ◌∷◌, ◌++◌, map, length, is_some, Some, None, Ok, Err, sym, refl, ap, ◌∙◌, mul-suc, arith, lit≤, length-append}
 use Rattle.std.specs.List.{AllByRecursion as All}
 use Rattle.std.proofs.lemmas.Bool.Decides.{nat_tests}
 use Rattle.std.proofs.lemmas.List.{append_assoc, append-nil}
-use Rattle.std.proofs.lemmas.Bool.{and_from, cases_Bool, le-leb, lt-ltb}
+use Rattle.std.proofs.lemmas.Bool.{and_from, le-leb, lt-ltb}
 use Rattle.order.specs.declared.bound.Bound.{Bound}
 use Rattle.order.specs.declared.literal.Literal.{Literal}
 use Rattle.order.specs.declared.literal.Literal.TheVariants.{True}
@@ -25,7 +25,7 @@ use Rattle.cnf.specs.Passed.{total_cost, with_clauses}
 use Rattle.cnf.proofs.Proper.{all_proper}
 use Rattle.job.specs.declared.refusal.Refusal.TheVariants.{HeaderPresent, NoSpace}
 use Rattle.job.specs.Questions.{verdict}
-use Rattle.job.specs.Writes.{output, header_of, cost_of, write_questions, filed, writing, clauses}
+use Rattle.job.specs.Writes.{output, header_of, cost_of, write_questions, filed, writing}
 use Rattle.job.specs.View.{View}
 use Rattle.job.proofs.Asking.{all_yes}
 

@@ -2,7 +2,6 @@
 use Rattle.std.specs.Prelude.{ℕ, List, [], ◌∷◌, ◌++◌}
 use Rattle.order.specs.declared.literal.Literal.{Literal}
 use Rattle.order.specs.declared.range.Range.{Range}
-use Rattle.order.specs.Ranges.{total_bits}
 use Rattle.ties.specs.Roots.{root_at}
 
 -- the range of each variable, and the root of each bit

@@ -1,5 +1,5 @@
 -- Items of a row, ties between bounds, and pairings. Assumes nothing.
-use Rattle.std.specs.Prelude.{◌≡◌, ℕ, Bool, true, false, ◌&&◌, ◌||◌, List, [], ◌∷◌, length, ◌==◌, slice_index_or}
+use Rattle.std.specs.Prelude.{ℕ, Bool, true, false, ◌&&◌, ◌||◌, List, [], ◌∷◌, length, ◌==◌, slice_index_or}
 use Rattle.order.specs.declared.bound.Bound.{Bound}
 use Rattle.kinds.specs.declared.item.Item.{Item}
 use Rattle.kinds.specs.declared.item.Item.TheVariants.{Variable, Bounded}

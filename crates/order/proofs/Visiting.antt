@@ -1,5 +1,5 @@
 -- What a visitor has gone through: one list after another. Assumes nothing.
-use Rattle.std.proofs.Common.{◌≡◌, ℕ, ◌+◌, ◌≤◌, max, List, [], ◌∷◌, ◌++◌, sym, refl, subst}
+use Rattle.std.proofs.Common.{ℕ, ◌+◌, ◌≤◌, max, List, [], ◌∷◌, ◌++◌, sym, refl, subst}
 use Rattle.order.specs.Between.{between}
 use Rattle.order.specs.Visits.{After}
 use Rattle.order.proofs.Stretches.{between_more, between_end}

@@ -1,5 +1,5 @@
 -- Bounds, their truth under values, and their literals. Assumes nothing.
-use Rattle.std.specs.Prelude.{◌≡◌, ℕ, ◌+◌, ◌-◌, ◌≤◌, Bool, true, false, cond, not, ◌||◌, List, [], ◌∷◌, map, nat_le, nat_lt}
+use Rattle.std.specs.Prelude.{ℕ, ◌+◌, ◌-◌, ◌≤◌, Bool, true, false, cond, not, List, map, nat_le, nat_lt}
 use Rattle.order.specs.declared.range.Range.{Range}
 pub use Rattle.order.specs.declared.bound.Bound.{Bound}
 use Rattle.order.specs.Literals.{Literal, False, True, Bit, opposite}

@@ -1,5 +1,5 @@
 -- The literals: the constants, a bit (numbered from 1) and a bit's opposite. Assumes nothing.
-use Rattle.std.specs.Prelude.{ℕ, Bool, true, false, not, List, [], ◌∷◌, ◌==◌}
+use Rattle.std.specs.Prelude.{ℕ, Bool, true, false, not, ◌==◌}
 pub use Rattle.order.specs.declared.literal.Literal.{Literal}
 pub use Rattle.order.specs.declared.literal.Literal.TheVariants.{False, True, Bit, Not}
 

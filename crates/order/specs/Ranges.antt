@@ -1,6 +1,6 @@
 -- Ranges, and the bits that come before those of a variable. Assumes nothing.
-use Rattle.std.specs.Prelude.{◌≡◌, ℕ, zero, suc, ◌+◌, ◌-◌, ◌<◌, ◌≤◌, min, Bool, true, false, cond, ◌&&◌, List, [], ◌∷◌, length, nat_le, slice_index, slice_index_or}
-use Rattle.std.proofs.Math.Nat.{min-le_left, min-le_right}
+use Rattle.std.specs.Prelude.{◌≡◌, ℕ, zero, suc, ◌+◌, ◌-◌, ◌<◌, min, Bool, ◌&&◌, List, length, nat_le, slice_index, slice_index_or}
+use Rattle.std.proofs.Math.Nat.{min-le_right}
 use Rattle.std.proofs.Common.{lit≤}
 use Rattle.order.specs.declared.range.Range.{Range}
 

@@ -1,6 +1,5 @@
 -- Entries of rows, and the items that they point at. Assumes nothing.
 use Rattle.std.specs.Prelude.{ℕ, ◌+◌, ◌-◌, ◌<◌, ◌≤◌, List, [], ◌∷◌, length, slice_index_or}
-use Rattle.kinds.specs.declared.item.Item.{Item}
 use Rattle.rows.specs.declared.storage.Entry.{Entry}
 
 -- no row

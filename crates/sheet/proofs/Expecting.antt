@@ -1,12 +1,11 @@
 -- A word that is compared with the one expected. Assumes nothing.
-use Rattle.std.proofs.Common.{◌≡◌, ℕ, ◌+◌, ◌<◌, ◌≤◌, Bool, true, false, cond, List, [], ◌∷◌, map, length, get_or, drop, Some, None, Decides, sym, refl, ap, ◌∙◌, inl, inr, arith}
+use Rattle.std.proofs.Common.{◌≡◌, ℕ, ◌+◌, ◌<◌, ◌≤◌, Bool, true, false, cond, List, ◌∷◌, map, length, get_or, drop, Some, None, Decides, sym, ap, ◌∙◌, arith}
 use Rattle.std.proofs.lemmas.List.{at_drop_more, at_drop_all}
 use Rattle.std.specs.Str.{bytes_eq}
 use Rattle.std.proofs.lemmas.Slice.Eq.{bytes_eq-Decides}
-use Rattle.std.proofs.lemmas.Bool.{cases_Bool, both_ways}
 use Rattle.words.specs.declared.parts.Part.{Part}
 use Rattle.words.specs.Parts.{bytes}
-use Rattle.sheet.specs.Lines.{first_fits, rest}
+use Rattle.sheet.specs.Lines.{first_fits}
 use Rattle.sheet.specs.Sheets.{find, find_from}
 
 -- two tests of one equation, either way round

@@ -1,5 +1,5 @@
 -- What a variable line comes to once its words are right. Assumes nothing.
-use Rattle.std.proofs.Common.{◌≡◌, ℕ, Bool, true, false, cond, List, [], ◌∷◌, ◌++◌, map, is_some, Some, None, Ok, Err, Result, sym, refl, ap, ◌∙◌, arith}
+use Rattle.std.proofs.Common.{◌≡◌, ℕ, true, false, cond, List, [], ◌∷◌, ◌++◌, map, is_some, None, Err, Result, sym, refl, ap, ◌∙◌, arith}
 use Rattle.std.proofs.lemmas.List.{map_push}
 use Rattle.words.specs.declared.parts.Part.{Part}
 use Rattle.words.specs.Parts.{bytes}
@@ -12,9 +12,9 @@ use Rattle.job.specs.declared.refusal.Fault.TheVariants.{Refused as No, NoMemory
 use Rattle.job.specs.Questions.{Answers}
 use Rattle.sheet.specs.Reads.{Steps, passed}
 use Rattle.sheet.specs.declared.reader.Section.{Section}
-use Rattle.sheet.specs.declared.refusal.Reason.TheVariants.{BadVariable, NameTaken, Job}
+use Rattle.sheet.specs.declared.refusal.Reason.TheVariants.{BadVariable, NameTaken}
 use Rattle.sheet.specs.Lines.{misfit, variable_words, word_at, none_left}
-use Rattle.sheet.specs.Sheets.{Draft, Mark, mark, find, fitting, declared, variable_line, line_step}
+use Rattle.sheet.specs.Sheets.{Draft, mark, find, fitting, declared, variable_line, line_step}
 use Rattle.sheet.specs.declared.reader.Section.TheVariants.{Variables}
 
 -- the words are right and the name is new: the job answers

@@ -1,5 +1,5 @@
 -- Reading a sheet: its start, one line more, a line that stops it, and its end. Assumes nothing.
-use Rattle.std.proofs.Common.{◌≡◌, ℕ, ◌+◌, ◌<◌, ◌≤◌, Bool, true, false, cond, leb, List, [], ◌∷◌, map, length, drop, is_ok, IfOk, Some, None, Ok, Err, Result, sym, refl, ap, ◌∙◌, subst, arith}
+use Rattle.std.proofs.Common.{◌≡◌, ℕ, ◌+◌, ◌<◌, ◌≤◌, true, false, cond, leb, List, [], ◌∷◌, map, length, IfOk, Some, Ok, Err, Result, sym, ap, ◌∙◌, arith}
 use Rattle.std.specs.declared.alloc.AllocError.{AllocError}
 use Rattle.std.proofs.lemmas.Bool.{le-leb}
 use Rattle.std.proofs.lemmas.Bool.Decides.{nat_tests}
@@ -7,7 +7,6 @@ use Rattle.words.specs.declared.parts.Part.{Part}
 use Rattle.words.specs.Parts.{bytes}
 use Rattle.words.specs.Split.{lines, words}
 use Rattle.job.specs.View.{View, new_view}
-use Rattle.sheet.specs.declared.reader.Section.{Section}
 use Rattle.sheet.specs.declared.reader.Section.TheVariants.{Start}
 use Rattle.sheet.specs.declared.reader.Sheet.{Sheet}
 use Rattle.sheet.specs.declared.reader.reading.LineFault.{LineFault}
@@ -16,7 +15,7 @@ use Rattle.sheet.specs.declared.refusal.Reason.{Reason}
 use Rattle.sheet.specs.declared.refusal.Reason.TheVariants.{TooLong}
 use Rattle.sheet.specs.Halting.{Halts}
 use Rattle.sheet.specs.Reads.{Steps}
-use Rattle.sheet.specs.Sheets.{Draft, Mark, mark, Outcome, outcome, new_draft, line_step, after_line, read_lines, reading, end_stop}
+use Rattle.sheet.specs.Sheets.{Draft, mark, Outcome, outcome, new_draft, line_step, after_line, read_lines, reading, end_stop}
 use Rattle.sheet.specs.Views.{outcome_of}
 
 -- the draft of a reader that has read nothing

@@ -1,5 +1,5 @@
 -- What reading a line answers, and what it leaves. Assumes nothing.
-use Rattle.std.specs.Prelude.{◌≡◌, ℕ, Bool, true, false, List, [], ◌∷◌, Some, None, Ok, Err, Result}
+use Rattle.std.specs.Prelude.{◌≡◌, ℕ, Bool, false, List, [], Some, None, Ok, Err, Result}
 use Rattle.sheet.specs.declared.reader.reading.LineFault.{LineFault}
 use Rattle.sheet.specs.declared.reader.reading.LineFault.TheVariants.{Refused, NoMemory}
 use Rattle.job.specs.declared.refusal.Fault.{Fault}

@@ -1,5 +1,5 @@
 -- What a sheet says: the job that it fills, the names, and where it is refused. Assumes nothing.
-use Rattle.std.specs.Prelude.{◌≡◌, ℕ, zero, suc, ◌+◌, Bool, true, false, cond, ◌||◌, List, [], ◌∷◌, ◌++◌, length, is_some, Some, None, Ok, Err, Option, Result, nat_le}
+use Rattle.std.specs.Prelude.{ℕ, ◌+◌, cond, List, [], ◌∷◌, ◌++◌, length, is_some, Some, None, Ok, Err, Option, Result, nat_le}
 use Rattle.std.specs.Str.{bytes_eq}
 use Rattle.words.specs.Split.{lines, words}
 use Rattle.words.specs.Shapes.{number}

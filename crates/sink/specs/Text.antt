@@ -1,5 +1,5 @@
 -- The text of a clause file, and the clauses that a text holds. Assumes nothing.
-use Rattle.std.specs.Prelude.{◌≡◌, ℕ, Bool, true, false, cond, List, [], ◌∷◌, ◌++◌, map, length, drop, Some, None, codes, decimal, Option, ◌==◌}
+use Rattle.std.specs.Prelude.{ℕ, true, false, cond, List, [], ◌∷◌, ◌++◌, map, length, drop, Some, None, codes, decimal, Option, ◌==◌}
 use Rattle.words.specs.Split.{lines, words}
 use Rattle.words.specs.Shapes.{number}
 use Rattle.sink.specs.declared.header.Header.{Header}

@@ -1,5 +1,5 @@
 -- A clause file as signed words, and the clauses that words hold. Assumes nothing.
-use Rattle.std.specs.Prelude.{◌≡◌, ℕ, zero, suc, ◌+◌, Bool, true, false, cond, List, [], ◌∷◌, ◌++◌, map, length, drop, ℤ, pos, negsuc, neg_ℤ, Some, None, Option}
+use Rattle.std.specs.Prelude.{zero, suc, ◌+◌, true, false, cond, List, [], ◌∷◌, ◌++◌, map, length, drop, ℤ, pos, negsuc, neg_ℤ, Some, None, Option}
 use Rattle.sink.specs.declared.header.Header.{Header}
 use Rattle.sink.specs.declared.lit.Lit.{Lit}
 use Rattle.sink.specs.Sinks.{Costs}

@@ -1,8 +1,8 @@
 -- What a look leaves as long as roots stay, and why it lasts. Assumes nothing.
-use Rattle.std.proofs.Common.{◌≡◌, ℕ, ◌≤◌, Bool, true, false, cond, not, ◌&&◌, ◌||◌, List, [], ◌∷◌, map, sym, refl, ap, ◌∙◌, subst, inl, inr, arith}
+use Rattle.std.proofs.Common.{◌≡◌, ℕ, ◌≤◌, true, false, not, List, [], ◌∷◌, map, sym, refl, ap, ◌∙◌, subst, inl, inr, arith}
 use Rattle.std.specs.List.{AllByRecursion as All}
 use Rattle.std.proofs.ByRecursion.{All-weaker}
-use Rattle.std.proofs.lemmas.Bool.{cases_Bool, and_parts, or_cases, or_left}
+use Rattle.std.proofs.lemmas.Bool.{and_parts, or_cases, or_left}
 use Rattle.std.proofs.lemmas.Bool.Decides.{nat_tests}
 use Rattle.order.specs.declared.bound.Bound.{Bound}
 use Rattle.order.specs.declared.literal.Literal.{Literal}
@@ -24,7 +24,7 @@ use Rattle.cnf.proofs.Reducing.{has_struck}
 use Rattle.theory.specs.Jobs.{reduced}
 use Rattle.theory.specs.Closed.{Pairs, Stands}
 use Rattle.theory.specs.Steps.{Long}
-use Rattle.theory.specs.Rounds.{Rooted, Onward, Still, StillTie, StillPairing, Seen, Heard, Round, Rounds}
+use Rattle.theory.specs.Rounds.{Rooted, Onward, Still, StillTie, StillPairing, Seen, Round, Rounds}
 
 -- the order tells the literals of bits that are there
 rank_one : (n : ℕ) (a b : Literal) → there n a ≡ true → there n b ≡ true → rank a ≡ rank b → a ≡ b

@@ -1,5 +1,5 @@
 -- Settling by rounds: what a look at a clause or a pairing leaves, as long as the roots of its bounds stay. Assumes nothing.
-use Rattle.std.specs.Prelude.{◌≡◌, ℕ, true, false, List, [], ◌∷◌}
+use Rattle.std.specs.Prelude.{◌≡◌, ℕ, true, List, [], ◌∷◌}
 use Rattle.std.specs.List.{AllByRecursion as All}
 use Rattle.order.specs.declared.bound.Bound.{Bound}
 use Rattle.order.specs.declared.literal.Literal.{Literal}
@@ -10,8 +10,8 @@ use Rattle.ties.specs.Relations.{Within}
 use Rattle.ties.specs.Roots.{tied, root_by, Lower, Named, Fixed}
 use Rattle.kinds.specs.declared.item.Tie.{Tie}
 use Rattle.kinds.specs.Items.{Pairing}
-use Rattle.theory.specs.Jobs.{Job, clauses, pairings, reduced}
-use Rattle.theory.specs.Closed.{Pairs, Stands, Closed}
+use Rattle.theory.specs.Jobs.{reduced}
+use Rattle.theory.specs.Closed.{Pairs, Stands}
 use Rattle.theory.specs.Steps.{Long}
 
 -- roots that come first in their classes

@@ -27,7 +27,7 @@ fn a_file_is_printed(rt: HostRuntime) -> Result<(), Fail> {
     assert!(rt; sink.take_header(HEADER));
     assert!(rt; sink.take_clause(&[NOT_TWO, ONE]));
     assert!(rt; sink.take_clause(&[]));
-    assert!(rt; sink.text() == b"p cnf 6 8\n-2 1 0\n0\n");
+    assert!(rt; sink.text() == b"p cnf 6 8\n-2 1 0\n0\n".as_slice());
     assert_eq!(rt; sink.units_left(), 81);
     Ok(())
 }
@@ -45,7 +45,7 @@ fn numbers_of_many_digits_are_printed(rt: HostRuntime) -> Result<(), Fail> {
         negated: true,
     };
     assert!(rt; sink.take_clause(&[last]));
-    assert!(rt; sink.text() == b"p cnf 4096 2147483647\n-4096 0\n");
+    assert!(rt; sink.text() == b"p cnf 4096 2147483647\n-4096 0\n".as_slice());
     Ok(())
 }
 
@@ -55,7 +55,7 @@ fn one_header_comes_first(rt: HostRuntime) -> Result<(), Fail> {
     assert!(rt; !sink.take_clause(&[ONE]));
     assert!(rt; sink.take_header(HEADER));
     assert!(rt; !sink.take_header(HEADER));
-    assert!(rt; sink.text() == b"p cnf 6 8\n");
+    assert!(rt; sink.text() == b"p cnf 6 8\n".as_slice());
     Ok(())
 }
 
@@ -65,7 +65,7 @@ fn a_clause_too_long_changes_nothing(rt: HostRuntime) -> Result<(), Fail> {
     assert!(rt; sink.take_header(HEADER));
     assert!(rt; !sink.take_clause(&[NOT_TWO, ONE]));
     assert_eq!(rt; sink.units_left(), 6);
-    assert!(rt; sink.text() == b"p cnf 6 8\n");
+    assert!(rt; sink.text() == b"p cnf 6 8\n".as_slice());
     assert!(rt; sink.take_clause(&[ONE, ONE]));
     Ok(())
 }
@@ -79,7 +79,7 @@ fn a_set_is_worded(rt: HostRuntime) -> Result<(), Fail> {
     assert!(rt; sink.take_clause(&[NOT_TWO, ONE]));
     assert!(rt; !sink.take_clause(&[ONE]));
     assert!(rt; sink.take_clause(&[]));
-    assert!(rt; sink.words() == &[6, 8, -2, 1, 0, 0]);
+    assert!(rt; sink.words() == [6, 8, -2, 1, 0, 0].as_slice());
     assert_eq!(rt; sink.units_left(), 0);
     Ok(())
 }

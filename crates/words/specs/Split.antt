@@ -1,5 +1,5 @@
 -- How a text falls into lines, and a line into words. Assumes nothing.
-use Rattle.std.specs.Prelude.{ℕ, Bool, true, false, cond, List, [], ◌∷◌, ◌==◌}
+use Rattle.std.specs.Prelude.{ℕ, cond, List, [], ◌∷◌, ◌==◌}
 
 -- b before the first piece
 abbrev pub onto : ℕ → List (List ℕ) → List (List ℕ)

@@ -1,4 +1,4 @@
-use Rattle.std.proofs.Common.{◌≡◌, sym, refl, ap, ◌∙◌}
+use Rattle.std.proofs.Common.{sym, ◌∙◌}
 use Rattle.cnf.proofs.Scans.{has_here, has_more, has_none}
 use Rattle.cnf.proofs.literals.has.Goals as goal
 

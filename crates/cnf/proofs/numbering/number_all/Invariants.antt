@@ -1,4 +1,4 @@
-use Rattle.std.proofs.Common.{◌≡◌, ℕ, ◌≤◌, true, map, length, take, vec_items, vec_len, vec_capacity}
+use Rattle.std.proofs.Common.{◌≡◌, ℕ, true, map, length, take, vec_items, vec_len, vec_capacity}
 use Rattle.order.specs.declared.literal.Literal.{Literal}
 use Rattle.cnf.specs.Numbered.{Numbers, all_there, lit}
 use Rattle.cnf.proofs.numbering.number_all.Given as goal

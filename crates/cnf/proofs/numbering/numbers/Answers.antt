@@ -14,12 +14,12 @@ unfolding one_if
 loop-k-preserved g c =
     let f = g.R.Roots.root c.args.roots.now in
     let old = c.loop-k.invariant in
-    let more = free_more f c.loop-k.k c.loop-k.free c.eq.result c.root-of.result old.1 c.root-of.ensures c.eq.ensures in
+    let more = free_more f c.loop-k.k c.loop-k.free c.eq.result c.root_of.result old.1 c.root_of.ensures c.eq.ensures in
     let new : (c.if-eq.free ≡ free_to f (c.loop-k.k + 1)) = elim c.if-eq.branch [
       | then-eq w ↦ omega (arith, w.free-is, more, ap one_if w.if-eq.true)
       | else-eq w ↦ omega (arith, w.free-is, more, ap one_if w.if-eq.false)
     ] in
-    let items = c.in-ok-push.ensures.items in (
+    let items = c.in_ok-push.ensures.items in (
       ap length items ∙ length_push (vec_items c.loop-k.all) c.if-eq.free ∙ ap (λ n. n + 1) old.0,
       new,
       elim c.if-eq.branch [

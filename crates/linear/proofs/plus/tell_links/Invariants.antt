@@ -2,7 +2,7 @@ use Rattle.std.proofs.Common.{◌+◌}
 use Rattle.order.specs.Between.{between}
 use Rattle.order.specs.Ranges.{low, high}
 use Rattle.order.specs.Visits.{After}
-use Rattle.kinds.specs.Families.{goal as given_at, given_all}
+use Rattle.kinds.specs.Families.{given as given_at, given_all}
 use Rattle.linear.specs.Plus.{linked}
 use Rattle.linear.proofs.plus.tell_links.Given as goal
 

@@ -6,13 +6,13 @@ use Rattle.logical.specs.Distinct.{differ}
 use Rattle.logical.specs.DistinctLaws.{same_value, other_value}
 use Rattle.logical.proofs.distinct.differs_later.Goals as goal
 
-pub returns-then-value-value-of : goal.returns-then-value-value-of
-returns-then-value-value-of c =
+pub returns-then-value-value_of : goal.returns-then-value-value_of
+returns-then-value-value_of c =
     let items = c.args.items.now in
     let v = valued c.args.values.now in
     let p = c.args.p in
     let q = c.loop-q.q in
-    let same = same_value v (var items p) (var items q) c.variable-at.result c.variable-at-in-loop-q.result c.value-of-value.result c.value-of.result c.variable-at.ensures c.variable-at-in-loop-q.ensures c.value-of-value.ensures c.value-of.ensures c.if-value-value-of.true in
+    let same = same_value v (var items p) (var items q) c.variable_at.result c.variable_at-in-loop-q.result c.value_of-value.result c.value_of.result c.variable_at.ensures c.variable_at-in-loop-q.ensures c.value_of-value.ensures c.value_of.ensures c.if-value-value_of.true in
     sym (all_stops (differ items v p) (p + 1) (length items) q c.loop-q.auto.q c.loop-q-test.true same)
 
 pub loop-q-preserved : goal.loop-q-preserved
@@ -21,5 +21,5 @@ loop-q-preserved c =
     let v = valued c.args.values.now in
     let p = c.args.p in
     let q = c.loop-q.q in
-    let other = other_value v (var items p) (var items q) c.variable-at.result c.variable-at-in-loop-q.result c.value-of-value.result c.value-of.result c.variable-at.ensures c.variable-at-in-loop-q.ensures c.value-of-value.ensures c.value-of.ensures c.if-value-value-of.false in
+    let other = other_value v (var items p) (var items q) c.variable_at.result c.variable_at-in-loop-q.result c.value_of-value.result c.value_of.result c.variable_at.ensures c.variable_at-in-loop-q.ensures c.value_of-value.ensures c.value_of.ensures c.if-value-value_of.false in
     all_more (differ items v p) (p + 1) q c.loop-q.auto.q c.loop-q.invariant other

@@ -11,7 +11,7 @@ loop-v-preserved g c =
     let a = c.args.a in
     let b = c.args.b in
     let v = c.loop-v.v in
-    let heard = excludes_heard hears rs a b v c.range-of-of-a.result.low c.range-of-of-a.result.high c.settled.result c.skips.result c.loop-v.listener c.hear.new.self c.range-of-of-a.ensures.low c.range-of-of-a.ensures.high c.settled.ensures c.skips.ensures c.hear.ensures in (
+    let heard = excludes_heard hears rs a b v c.range_of-of_a.result.low c.range_of-of_a.result.high c.settled.result c.skips.result c.loop-v.listener c.hear.new.self c.range_of-of_a.ensures.low c.range_of-of_a.ensures.high c.settled.ensures c.skips.ensures c.hear.ensures in (
       after_more hears (excluded_at rs a b) c.shared-from.result.0 v c.args.listener.now c.loop-v.listener c.hear.new.self c.loop-v.auto.v c.loop-v.invariant.0 (after_one hears (excludes rs a b v) c.loop-v.listener c.hear.new.self heard),
       omega arith,
     )

@@ -1,6 +1,6 @@
-use Rattle.std.proofs.Common.{◌≡◌, ◌∷◌, Decides, sym, refl, ap, ◌∙◌, subst}
+use Rattle.std.proofs.Common.{◌∷◌, sym, refl, ap, ◌∙◌}
 use Rattle.std.proofs.lemmas.Slice.Eq.{slice_eq-Decides}
-use Rattle.words.specs.Parts.{bytes, part}
+use Rattle.words.specs.Parts.{part}
 use Rattle.sheet.specs.Expects.{words_of}
 use Rattle.sheet.specs.Lines.{rest}
 use Rattle.sheet.proofs.Expecting.{fits_word}

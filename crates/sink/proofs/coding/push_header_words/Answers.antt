@@ -9,5 +9,5 @@ returns c =
     let n : to_z w32 c.args.header.clauses ≡ pos c.args.header.clauses = to_z_pos w32 c.args.header.clauses (omega arith) in
     appended_as (ap (λ z. z ∷ to_z w32 c.args.header.clauses ∷ []) v ∙ ap (λ z. pos c.args.header.variables ∷ z ∷ []) n)
     (appended_then
-    (appended_push c.args.out.now c.push-reserved.new.self _ c.push-reserved.ensures.items c.push-reserved.ensures.len c.push-reserved.ensures.capacity)
-    (appended_push c.push-reserved.new.self c.push-reserved-2.new.self _ c.push-reserved-2.ensures.items c.push-reserved-2.ensures.len c.push-reserved-2.ensures.capacity))
+    (appended_push c.args.out.now c.push_reserved.new.self _ c.push_reserved.ensures.items c.push_reserved.ensures.len c.push_reserved.ensures.capacity)
+    (appended_push c.push_reserved.new.self c.push_reserved-2.new.self _ c.push_reserved-2.ensures.items c.push_reserved-2.ensures.len c.push_reserved-2.ensures.capacity))

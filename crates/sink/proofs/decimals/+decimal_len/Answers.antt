@@ -3,8 +3,8 @@ use Rattle.std.proofs.lemmas.Fmt.{length-decimal-le_succ}
 use Rattle.sink.proofs.Numerals.{length_one, length_two, length_three, length_four, length_more}
 use Rattle.sink.proofs.decimals.+decimal_len.Goals as goal
 
-pub overflow-add-result : goal.overflow-add-result
-overflow-add-result t c = omega (arith, length-decimal-le_succ (c.args.n / 10000) (omega arith))
+pub overflow_add-result : goal.overflow_add-result
+overflow_add-result t c = omega (arith, length-decimal-le_succ (c.args.n / 10000) (omega arith))
 
 pub returns-then-n-lt10 : goal.returns-then-n-lt10
 returns-then-n-lt10 t c = omega (arith, length_one c.args.n (omega arith))

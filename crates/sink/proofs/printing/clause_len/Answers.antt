@@ -9,9 +9,9 @@ loop-l-init c = (omega (arith, clause_length c.args.clause.now), omega arith)
 
 pub loop-l-preserved : goal.loop-l-preserved
 loop-l-preserved c = (
-  capped_more c.args.clause.now c.loop-l.l-index c.loop-l.len c.saturating-add-len.result c.lit-len.result (record { variable = 0; negated = false })
-      c.loop-l-test.true c.lit-len.ensures c.saturating-add-len.ensures c.loop-l.invariant.0,
-  c.saturating-add-len.type-inv,
+  capped_more c.args.clause.now c.loop-l.l-index c.loop-l.len c.saturating_add-len.result c.lit_len.result (record { variable = 0; negated = false })
+      c.loop-l-test.true c.lit_len.ensures c.saturating_add-len.ensures c.loop-l.invariant.0,
+  c.saturating_add-len.type_inv,
 )
 
 pub returns : goal.returns

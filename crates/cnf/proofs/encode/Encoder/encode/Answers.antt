@@ -1,10 +1,10 @@
 use Rattle.std.proofs.Common.{◌≡◌, true, [], ◌∷◌, map, length, vec_items, sym, refl, ap, ◌∙◌, subst, arith}
-use Rattle.cnf.specs.Numbered.{Numbers, all_there, lit, rooted}
+use Rattle.cnf.specs.Numbered.{Numbers, all_there, lit}
 use Rattle.cnf.proofs.Inside.{kept_there}
 use Rattle.cnf.proofs.encode.Encoder.encode.Goals as goal
 
-pub number-all-requires : goal.number-all-requires
-number-all-requires g c = omega (arith, c.reduce.ensures.short, c.args.self.now.place, c.deref-2.ensures.len)
+pub number_all-requires : goal.number_all-requires
+number_all-requires g c = omega (arith, c.reduce.ensures.short, c.args.self.now.place, c.deref-2.ensures.len)
 
 pub returns-then-not-reduce : goal.returns-then-not-reduce
 returns-then-not-reduce g c = record {
@@ -23,7 +23,7 @@ returns g c =
       written = λ ready short.
           ap (map (map (lit f))) out
           ∙ ap (λ x. x ∷ []) (sym (
-          c.number-all.ensures.value f
+          c.number_all.ensures.value f
           (subst (λ ns. Numbers f ns) (sym c.deref.ensures.value) ready.numbered)
           (subst (λ d. all_there (length c.deref.result.now) d ≡ true) (sym c.deref-2.ensures.value)
           (kept_there rs f (g.met.R.Roots.named c.args.roots.now) c.args.clause.now (vec_items c.reduce.new.out) (length c.deref.result.now) (ap length c.deref.ensures.value ∙ ready.long) out))

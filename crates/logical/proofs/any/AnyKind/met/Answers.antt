@@ -9,12 +9,12 @@ use Rattle.logical.proofs.any.AnyKind.met.Goals as goal
 pub returns-then-holds : goal.returns-then-holds
 returns-then-holds c =
     let v = valued c.args.values.now in
-    or_stop (λ i. holds v (bound_of i)) (λ is. some_holds v (bounds is)) c.args.items.now c.loop-item.item-index refl (λ _ _. refl) (Variable 0) c.loop-item-test.true (ap (holds v) (sym c.bound-of.ensures) ∙ sym c.holds.ensures ∙ c.if-holds.true) c.loop-item.invariant
+    or_stop (λ i. holds v (bound_of i)) (λ is. some_holds v (bounds is)) c.args.items.now c.loop-item.item-index refl (λ _ _. refl) (Variable 0) c.loop-item-test.true (ap (holds v) (sym c.bound_of.ensures) ∙ sym c.holds.ensures ∙ c.if-holds.true) c.loop-item.invariant
 
 pub loop-item-preserved : goal.loop-item-preserved
 loop-item-preserved c =
     let v = valued c.args.values.now in
-    or_go (λ i. holds v (bound_of i)) (λ is. some_holds v (bounds is)) c.args.items.now c.loop-item.item-index refl (λ _ _. refl) (Variable 0) c.loop-item-test.true (ap (holds v) (sym c.bound-of.ensures) ∙ sym c.holds.ensures ∙ c.if-holds.false) c.loop-item.invariant
+    or_go (λ i. holds v (bound_of i)) (λ is. some_holds v (bounds is)) c.args.items.now c.loop-item.item-index refl (λ _ _. refl) (Variable 0) c.loop-item-test.true (ap (holds v) (sym c.bound_of.ensures) ∙ sym c.holds.ensures ∙ c.if-holds.false) c.loop-item.invariant
 
 pub returns : goal.returns
 returns c =

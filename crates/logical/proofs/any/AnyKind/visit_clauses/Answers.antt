@@ -6,8 +6,8 @@ use Rattle.logical.proofs.any.AnyKind.visit_clauses.Goals as goal
 
 pub loop-k-preserved : goal.loop-k-preserved
 loop-k-preserved g c = (
-  length-set c.loop-k.clause c.loop-k.k c.bound-of.result ∙ c.loop-k.invariant.0,
-  copied c.loop-k.clause c.args.items.now c.loop-k.k c.bound-of.result (Variable 0) (omega (arith, c.loop-k.invariant.0)) (omega arith) c.bound-of.ensures c.loop-k.invariant.1,
+  length-set c.loop-k.clause c.loop-k.k c.bound_of.result ∙ c.loop-k.invariant.0,
+  copied c.loop-k.clause c.args.items.now c.loop-k.k c.bound_of.result (Variable 0) (omega (arith, c.loop-k.invariant.0)) (omega arith) c.bound_of.ensures c.loop-k.invariant.1,
 )
 
 pub returns : goal.returns

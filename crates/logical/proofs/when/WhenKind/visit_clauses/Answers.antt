@@ -6,8 +6,8 @@ use Rattle.logical.proofs.when.WhenKind.visit_clauses.Goals as goal
 pub returns : goal.returns
 returns g c =
     let rs = c.args.ranges.now in
-    let x = c.variable-at-x.result in
-    let a = c.variable-at-a.result in
-    let b = c.variable-at-b.result in
-    let joined = after_join g.V.Visitor.step (all_upheld rs x a b) (all_denied rs x a b) c.args.visitor.now c.visit-all-upheld.new.visitor c.visit-all-denied.new.visitor c.visit-all-upheld.ensures c.visit-all-denied.ensures in
+    let x = c.variable_at-x.result in
+    let a = c.variable_at-a.result in
+    let b = c.variable_at-b.result in
+    let joined = after_join g.V.Visitor.step (all_upheld rs x a b) (all_denied rs x a b) c.args.visitor.now c.visit_all_upheld.new.visitor c.visit_all_denied.new.visitor c.visit_all_upheld.ensures c.visit_all_denied.ensures in
     search rules

@@ -1,4 +1,4 @@
-use Rattle.std.proofs.Common.{◌≡◌, ◌<◌, ◌≤◌, length, get_or, ap, arith}
+use Rattle.std.proofs.Common.{◌≡◌, ◌<◌, length, get_or, ap, arith}
 use Rattle.order.specs.Ranges.{first, no_range}
 use Rattle.order.specs.declared.range.Range.{Range}
 use Rattle.order.proofs.Ranging.{reach_absent, entry_before, entry_range, first_rises, reach_bit}
@@ -8,7 +8,7 @@ pub returns-else-at-eq0 : goal.returns-else-at-eq0
 returns-else-at-eq0 c = reach_absent c.args.self.now.ranges.items c.args.variable c.args.at (omega (arith, c.args.self.now.ranges.ok.0)) (omega arith)
 
 -- what stands at the variable's place
-entries : (c : goal.After-row-known·1) → (c.index.result.now ≡ first c.args.self.now.ranges.items c.args.variable) × (c.index-range.result.now ≡ get_or c.args.self.now.ranges.items c.args.variable no_range)
+entries : (c : goal.After-row_known-1) → (c.index.result.now ≡ first c.args.self.now.ranges.items c.args.variable) × (c.index-range.result.now ≡ get_or c.args.self.now.ranges.items c.args.variable no_range)
 entries c =
     let self = c.args.self.now in
     let there : c.args.variable < length self.ranges.items = omega (arith, self.ranges.ok.0) in
@@ -17,8 +17,8 @@ entries c =
       entry_range self.ranges.items c.args.variable c.index-range.result.now there c.index-range.ensures,
     )
 
-pub overflow-add-result : goal.overflow-add-result
-overflow-add-result c =
+pub overflow_add-result : goal.overflow_add-result
+overflow_add-result c =
     let self = c.args.self.now in
     let at = entries c in
     let rises = first_rises self.ranges.items c.args.variable self.ranges.len (omega arith) in

@@ -1,8 +1,6 @@
-use Rattle.std.proofs.Common.{◌≡◌, ◌+◌, ◌≤◌, max}
+use Rattle.std.proofs.Common.{◌≤◌, max}
 use Rattle.order.specs.Between.{between}
 use Rattle.order.specs.Orders.{step}
-use Rattle.order.specs.Ranges.{low}
-use Rattle.order.specs.Variables.{ranges_of}
 use Rattle.order.specs.Visits.{After}
 use Rattle.order.proofs.variables.Variables.visit_order.Given as goal
 

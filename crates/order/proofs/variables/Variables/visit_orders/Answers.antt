@@ -6,7 +6,7 @@ use Rattle.order.proofs.Visiting.{after_more}
 use Rattle.order.proofs.variables.Variables.visit_orders.Goals as goal
 
 pub loop-x-preserved : goal.loop-x-preserved
-loop-x-preserved g c = after_more g.V.Visitor.step (order c.args.self.now.ranges.items) 0 c.loop-x.x _ _ _ (omega arith) c.loop-x.invariant c.visit-order.ensures
+loop-x-preserved g c = after_more g.V.Visitor.step (order c.args.self.now.ranges.items) 0 c.loop-x.x _ _ _ (omega arith) c.loop-x.invariant c.visit_order.ensures
 
 pub returns : goal.returns
 returns g c =

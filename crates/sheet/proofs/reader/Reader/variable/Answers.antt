@@ -16,12 +16,12 @@ returns-in-Ok-declare c =
     let ws = words_of text c.args.line in
     let found = c.in-Ok.ensures in
     let new : is_some (find (map (bytes text) (vec_items self.names)) (word_at ws 0)) ≡ false =
-    sym (c.if-is-some.ensures ∙ ap is_some (c.find.ensures ∙ ap (λ ps. find (map (bytes text) ps) c.of.result.now) c.deref.ensures.value ∙ ap (find (map (bytes text) (vec_items self.names))) (c.of.ensures ∙ found.1))) in
+    sym (c.if-is_some.ensures ∙ ap is_some (c.find.ensures ∙ ap (λ ps. find (map (bytes text) ps) c.of.result.now) c.deref.ensures.value ∙ ap (find (map (bytes text) (vec_items self.names))) (c.of.ensures ∙ found.1))) in
     record {
       text = refl;
       steps =
           line_declares (draft_of self) ws c.from.result c.from-2.result _ found.0 new (c.from.ensures ∙ found.2) (c.from-2.ensures ∙ found.3) c.in-Ok-declare.ensures.answers
-          ∙ ap Ok (same_draft _ _ _ _ self.section refl (sym (names_push text (vec_items self.names) (vec_items c.reserve.new.self) _ c.in-Ok.found.0 _ c.push-reserved.ensures.items c.reserve.ensures.items found.1)));
+          ∙ ap Ok (same_draft _ _ _ _ self.section refl (sym (names_push text (vec_items self.names) (vec_items c.reserve.new.self) _ c.in-Ok.found.0 _ c.push_reserved.ensures.items c.reserve.ensures.items found.1)));
     }
 
 pub returns-in-Err-declare : goal.returns-in-Err-declare
@@ -31,10 +31,10 @@ returns-in-Err-declare c =
     let ws = words_of text c.args.line in
     let found = c.in-Ok.ensures in
     let new : is_some (find (map (bytes text) (vec_items self.names)) (word_at ws 0)) ≡ false =
-    sym (c.if-is-some.ensures ∙ ap is_some (c.find.ensures ∙ ap (λ ps. find (map (bytes text) ps) c.of.result.now) c.deref.ensures.value ∙ ap (find (map (bytes text) (vec_items self.names))) (c.of.ensures ∙ found.1))) in
+    sym (c.if-is_some.ensures ∙ ap is_some (c.find.ensures ∙ ap (λ ps. find (map (bytes text) ps) c.of.result.now) c.deref.ensures.value ∙ ap (find (map (bytes text) (vec_items self.names))) (c.of.ensures ∙ found.1))) in
     let after : Draft = record { view = open_view c.declare.new.self; names = map (bytes text) (vec_items c.reserve.new.self); section = self.section } in
     let steps = line_faults (draft_of self) after ws c.from.result c.from-2.result c.in-Err-declare.fault found.0 new (c.from.ensures ∙ found.2) (c.from-2.ensures ∙ found.3) c.in-Err-declare.ensures.answers (ap (map (bytes text)) c.reserve.ensures.items) refl in
     record {
       text = refl;
-      steps = subst (λ q. Steps (variable_line (draft_of self) ws) (Err q) (draft_of self) after) (sym c.pass-up.ensures) steps;
+      steps = subst (λ q. Steps (variable_line (draft_of self) ws) (Err q) (draft_of self) after) (sym c.pass_up.ensures) steps;
     }

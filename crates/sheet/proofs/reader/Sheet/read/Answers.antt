@@ -10,11 +10,11 @@ use Rattle.sheet.proofs.reader.Sheet.read.Goals as goal
 
 pub loop-part-init : goal.loop-part-init
 loop-part-init c =
-    let short = ltb-false _ _ (sym c.if-too-long.ensures) in
+    let short = ltb-false _ _ (sym c.if-too_long.ensures) in
     (reading_short c.args.text.now _ (starts c.args.text.now _ _ c.new.ensures c.new-2.ensures.items) short, refl, short, omega arith, omega arith)
 
-pub returns-then-too-long : goal.returns-then-too-long
-returns-then-too-long c = c.stopped.ensures ∙ sym (reading_long c.args.text.now _ (starts c.args.text.now _ _ c.new.ensures c.new-2.ensures.items) (ltb-true _ _ (sym c.if-too-long.ensures)))
+pub returns-then-too_long : goal.returns-then-too_long
+returns-then-too_long c = c.stopped.ensures ∙ sym (reading_long c.args.text.now _ (starts c.args.text.now _ _ c.new.ensures c.new-2.ensures.items) (ltb-true _ _ (sym c.if-too_long.ensures)))
 
 pub returns-in-Err : goal.returns-in-Err
 returns-in-Err c =
@@ -42,4 +42,4 @@ pub returns : goal.returns
 returns c =
     let inv = c.loop-part.invariant in
     sym (ap (λ t. outcome_of t c.ended.result) inv.1) ∙ c.ended.ensures
-    ∙ sym (ends (reading c.args.text.now) (draft_of c.loop-part.reader) c.loop-part.line _ inv.0 c.in-default.ensures)
+    ∙ sym (ends (reading c.args.text.now) (draft_of c.loop-part.reader) c.loop-part.line _ inv.0 c.in_default.ensures)

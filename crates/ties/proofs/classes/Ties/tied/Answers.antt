@@ -3,4 +3,4 @@ use Rattle.ties.proofs.Equivalences.{tied_is_ties}
 use Rattle.ties.proofs.classes.Ties.tied.Goals as goal
 
 pub returns : goal.returns
-returns c = record { value = c.share-root.ensures; ties = tied_is_ties _; consistent = refl }
+returns c = record { value = c.share_root.ensures; ties = tied_is_ties _; consistent = refl }

@@ -1,8 +1,5 @@
-use Rattle.std.proofs.Common.{◌≡◌, ◌≤◌, length, sym, refl, ap, ◌∙◌, subst, arith}
+use Rattle.std.proofs.Common.{arith}
 use Rattle.order.specs.Orders.{orders}
-use Rattle.order.specs.Ranges.{total_bits}
-use Rattle.cnf.specs.Encoded.{Ready}
-use Rattle.cnf.specs.Passed.{total_cost}
 use Rattle.cnf.proofs.Passing.{counted_all, ready_numbers}
 use Rattle.job.specs.Views.{root_of, parts_view}
 use Rattle.job.specs.Writes.{output}
@@ -14,7 +11,7 @@ unfolding output
 returns g c =
     let v = c.args.variables.now in
     let t = c.args.ties.now in
-    let all = counted_all root_of g.S.Sink.costs (orders v.ranges.items) _ _ c.requires (orders_short v.ranges.items) c.visit-orders.ensures in
+    let all = counted_all root_of g.S.Sink.costs (orders v.ranges.items) _ _ c.requires (orders_short v.ranges.items) c.visit_orders.ensures in
     let bits = variables_small v in
     let few = output_few (parts_view v t) in
     let small = output_small g.S.Sink.costs g.met.S.Sink.lawful (parts_view v t) t.named t.fixed bits in
