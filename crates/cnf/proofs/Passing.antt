@@ -1,6 +1,6 @@
 -- A list of clauses, shown to the costs and to a sink. Assumes nothing.
 use Rattle.std.proofs.Common.{◌≡◌, ℕ, ◌+◌, ◌≤◌, List, [], ◌∷◌, ◌++◌, length, vec_items, sym, refl, ap, ◌∙◌, subst, arith, length-append, Bor}
-use Rattle.std.specs.List.{AllByRecursion as All}
+use Rattle.std.specs.List.{AllByRecursion}
 use Rattle.order.specs.declared.bound.Bound.{Bound}
 use Rattle.order.specs.declared.literal.Literal.{Literal}
 use Rattle.order.specs.declared.range.Range.{Range}
@@ -52,7 +52,7 @@ module _ {R : Type 0} (root : R → ℕ → Literal) where
     pub clauses : capped t.clauses ≡ capped (s.clauses + length (writes-all s.variables s.roots cs))
     pub cost : capped t.cost ≡ capped (s.cost + total_cost k (writes-all s.variables s.roots cs))
 
-  pub counted_all : {S : Type 0} (k : Costs) (cs : List (List Bound)) (s t : Costing R S) → Ready-at s.variables s.roots s.encoder → All (λ c. length c ≤ 64) cs → After (Counted root k) s cs t → Counted-all k s cs t
+  pub counted_all : {S : Type 0} (k : Costs) (cs : List (List Bound)) (s t : Costing R S) → Ready-at s.variables s.roots s.encoder → AllByRecursion (λ c. length c ≤ 64) cs → After (Counted root k) s cs t → Counted-all k s cs t
   counted_all k [] s t ready short h = subst (Counted-all k s []) h (record {
     numbers = refl;
     clauses = omega arith;
@@ -75,7 +75,7 @@ module _ {R : Type 0} (root : R → ℕ → Literal) where
     pub lender : t.sink.ghost_name ≡ s.sink.ghost_name
     pub sink : state t.sink.now ≡ with_clauses k (state s.sink.now) (writes-all s.variables s.roots cs)
 
-  pub put_all : {S : Type 0} (k : Costs) (state : S → State) (cs : List (List Bound)) (s t : Putting R S) → Ready-at s.variables s.roots s.encoder.now → All (λ c. length c ≤ 64) cs → After (Put root k state) s cs t → Put-all k state s cs t
+  pub put_all : {S : Type 0} (k : Costs) (state : S → State) (cs : List (List Bound)) (s t : Putting R S) → Ready-at s.variables s.roots s.encoder.now → AllByRecursion (λ c. length c ≤ 64) cs → After (Put root k state) s cs t → Put-all k state s cs t
   put_all k state [] s t ready short h = subst (Put-all k state s []) h (record { lender = refl; sink = refl })
   put_all k state (c ∷ cs) s t ready short h =
       let u = h.0 in

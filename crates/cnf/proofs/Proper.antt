@@ -1,7 +1,7 @@
 -- What is written fits under the header: short clauses, of the numbers of free bits. Assumes nothing.
 use Rattle.std.proofs.Common.{◌≡◌, ℕ, zero, suc, ◌+◌, ◌<◌, ◌≤◌, Bool, true, false, cond, ◌&&◌, ◌||◌, ltb, leb, ◌⊎◌, List, [], ◌∷◌, ◌++◌, map, length, fold, sym, refl, ap, ◌∙◌, subst, inl, inr, arith}
 use lib.ListN.{length-map}
-use Rattle.std.specs.List.{AllByRecursion as All}
+use Rattle.std.specs.List.{AllByRecursion}
 use Rattle.std.proofs.ByRecursion.{All-append}
 use Rattle.std.proofs.lemmas.List.{length_push}
 use Rattle.std.proofs.lemmas.Bool.{and_from, and_parts, cases_Bool, cases_order, le-leb, lt-ltb, or_left}
@@ -61,17 +61,17 @@ root_free f n (Not m) h e nt nf = let p = bit_there n m h in (p.0, p.1, not_own 
 
 -- literals that are there, and their own roots, and not true
 abbrev pub RootsOnly : (ℕ → Literal) → ℕ → List Literal → Type 0
-RootsOnly f n c = All (λ l. (there n l ≡ true) × (root_by f l ≡ l) × (l ≡ True → ⊥)) c
+RootsOnly f n c = AllByRecursion (λ l. (there n l ≡ true) × (root_by f l ≡ l) × (l ≡ True → ⊥)) c
 
-free_all : (f : ℕ → Literal) (n : ℕ) (d c : List Literal) → All (free_lit f n) d → RootsOnly f n c → All (free_lit f n) (fold add d c)
+free_all : (f : ℕ → Literal) (n : ℕ) (d c : List Literal) → AllByRecursion (free_lit f n) d → RootsOnly f n c → AllByRecursion (free_lit f n) (fold add d c)
 free_all f n d [] h k = h
 free_all f n d (l ∷ c) h k = free_all f n (add d l) c (added (same_tells l False)) k.1
   where
-    added : ((same l False ≡ true) × (l ≡ False)) ⊎ ((same l False ≡ false) × (l ≡ False → ⊥)) → All (free_lit f n) (add d l)
-    added (inl e) = subst (λ b. All (free_lit f n) (cond b d (d ++ l ∷ []))) (sym (or_left (same l False) (has d l) e.0)) h
+    added : ((same l False ≡ true) × (l ≡ False)) ⊎ ((same l False ≡ false) × (l ≡ False → ⊥)) → AllByRecursion (free_lit f n) (add d l)
+    added (inl e) = subst (λ b. AllByRecursion (free_lit f n) (cond b d (d ++ l ∷ []))) (sym (or_left (same l False) (has d l) e.0)) h
     added (inr e) = elim (cases_Bool (same l False || has d l)) [
-      | inl q ↦ subst (λ b. All (free_lit f n) (cond b d (d ++ l ∷ []))) (sym q) h
-      | inr q ↦ subst (λ b. All (free_lit f n) (cond b d (d ++ l ∷ []))) (sym q) (All-append (free_lit f n) d (l ∷ []) h (root_free f n l k.0.0 k.0.1 k.0.2 e.1, tt))
+      | inl q ↦ subst (λ b. AllByRecursion (free_lit f n) (cond b d (d ++ l ∷ []))) (sym q) h
+      | inr q ↦ subst (λ b. AllByRecursion (free_lit f n) (cond b d (d ++ l ∷ []))) (sym q) (All-append (free_lit f n) d (l ∷ []) h (root_free f n l k.0.0 k.0.1 k.0.2 e.1, tt))
     ]
 
 length_folded : (d c : List Literal) → length (fold add d c) ≤ length d + length c
@@ -86,7 +86,7 @@ number_proper : (f : ℕ → Literal) (n m : ℕ) → 0 < m → m ≤ n → f m 
 number_proper f n m some within e =
     and_from (ltb 0 (free_to f m)) (leb (free_to f m) (free_to f n)) (lt-ltb 0 (free_to f m) (free_some f m some e)) (le-leb (free_to f m) (free_to f n) (free_steps f m n within))
 
-lits_proper : (f : ℕ → Literal) (n : ℕ) (c : List Literal) → All (free_lit f n) c → proper_lits (free_to f n) (map (lit f) c) ≡ true
+lits_proper : (f : ℕ → Literal) (n : ℕ) (c : List Literal) → AllByRecursion (free_lit f n) c → proper_lits (free_to f n) (map (lit f) c) ≡ true
 lits_proper f n [] h = refl
 lits_proper f n (False ∷ c) h = absurd h.0
 lits_proper f n (True ∷ c) h = absurd h.0
@@ -126,21 +126,21 @@ roots_only f n fixed (l ∷ ls) h k =
     twice x = root_twice f fixed x
 
 module _ (rs : List Range) (f : ℕ → Literal) (named : Named f) (fixed : Fixed f) where
-  clause_proper : (c : List Bound) → length c ≤ 64 → All (λ w. proper_clause (free_to f (total_bits rs)) w ≡ true) (written_clause rs f c)
+  clause_proper : (c : List Bound) → length c ≤ 64 → AllByRecursion (λ w. proper_clause (free_to f (total_bits rs)) w ≡ true) (written_clause rs f c)
   clause_proper c short = elim (cases_Bool (has (rooted rs f c) True || opposed (rooted rs f c))) [
-    | inl e ↦ subst (λ b. All (λ w. proper_clause (free_to f (total_bits rs)) w ≡ true) (map (map (lit f)) (cond b [] (struck (rooted rs f c) ∷ [])))) (sym e) tt
+    | inl e ↦ subst (λ b. AllByRecursion (λ w. proper_clause (free_to f (total_bits rs)) w ≡ true) (map (map (lit f)) (cond b [] (struck (rooted rs f c) ∷ [])))) (sym e) tt
     | inr e ↦
         let k = parts (has (rooted rs f c) True) (opposed (rooted rs f c)) e in
         let roots = roots_only f (total_bits rs) fixed (literals rs c) (rooted_there rs f named c) k.0 in
         let long : length (map (lit f) (struck (rooted rs f c))) ≤ 64 = simp length-map (omega (arith, length_folded [] (rooted rs f c), length_rooted rs f c)) in
         let ok = and_from (leb (length (map (lit f) (struck (rooted rs f c)))) 64) (proper_lits (free_to f (total_bits rs)) (map (lit f) (struck (rooted rs f c)))) (le-leb (length (map (lit f) (struck (rooted rs f c)))) 64 long) (lits_proper f (total_bits rs) (struck (rooted rs f c)) (free_all f (total_bits rs) [] (rooted rs f c) tt roots)) in
-        subst (λ b. All (λ w. proper_clause (free_to f (total_bits rs)) w ≡ true) (map (map (lit f)) (cond b [] (struck (rooted rs f c) ∷ [])))) (sym e) (ok, tt)
+        subst (λ b. AllByRecursion (λ w. proper_clause (free_to f (total_bits rs)) w ≡ true) (map (map (lit f)) (cond b [] (struck (rooted rs f c) ∷ [])))) (sym e) (ok, tt)
   ]
     where
       parts : (a b : Bool) → (a || b) ≡ false → (a ≡ false) × (b ≡ false)
       parts a b h = grind arith
 
   -- each clause that is written is proper under V free bits
-  pub all_proper : (cs : List (List Bound)) → All (λ c. length c ≤ 64) cs → All (λ w. proper_clause (free_to f (total_bits rs)) w ≡ true) (written_all rs f cs)
+  pub all_proper : (cs : List (List Bound)) → AllByRecursion (λ c. length c ≤ 64) cs → AllByRecursion (λ w. proper_clause (free_to f (total_bits rs)) w ≡ true) (written_all rs f cs)
   all_proper [] short = tt
   all_proper (c ∷ cs) short = All-append (λ w. proper_clause (free_to f (total_bits rs)) w ≡ true) (written_clause rs f c) (written_all rs f cs) (clause_proper c short.0) (all_proper cs short.1)

@@ -1,10 +1,10 @@
 -- Questions that are put one after another. Assumes nothing.
 use Rattle.std.proofs.Common.{◌≡◌, true, false, cond, List, [], ◌∷◌, is_err, Some, None, Ok, Err, Result, refl, ap, ◌∙◌, arith, MatchResult}
-use Rattle.std.specs.List.{AllByRecursion as All}
+use Rattle.std.specs.List.{AllByRecursion}
 use Rattle.job.specs.Questions.{Question, first_no}
 
 -- all questions are answered yes
-pub all_yes : (qs : List Question) → All (λ q. q.yes ≡ true) qs → first_no qs ≡ None
+pub all_yes : (qs : List Question) → AllByRecursion (λ q. q.yes ≡ true) qs → first_no qs ≡ None
 all_yes [] h = refl
 all_yes (q ∷ qs) h = ap (λ a. cond a (first_no qs) (Some q.refusal)) h.0 ∙ all_yes qs h.1
 

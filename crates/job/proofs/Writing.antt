@@ -1,6 +1,6 @@
 -- What is written fits: few clauses, small costs, and a sink that takes them all. Assumes nothing.
 use Rattle.std.proofs.Common.{◌≡◌, ℕ, zero, suc, ◌+◌, ◌-◌, ◌*◌, ◌<◌, ◌≤◌, Bool, true, false, cond, not, ◌&&◌, ◌||◌, ltb, leb, List, [], ◌∷◌, ◌++◌, map, length, is_some, Some, None, Ok, Err, sym, refl, ap, ◌∙◌, mul-suc, arith, lit≤, length-append}
-use Rattle.std.specs.List.{AllByRecursion as All}
+use Rattle.std.specs.List.{AllByRecursion}
 use Rattle.std.proofs.lemmas.Bool.Decides.{nat_tests}
 use Rattle.std.proofs.lemmas.List.{append_assoc, append-nil}
 use Rattle.std.proofs.lemmas.Bool.{and_from, le-leb, lt-ltb}
@@ -30,7 +30,7 @@ use Rattle.job.specs.View.{View}
 use Rattle.job.proofs.Asking.{all_yes}
 
 -- an order clause has two literals
-pub orders_short : (rs : List Range) → All (λ c. length c ≤ 64) (orders rs)
+pub orders_short : (rs : List Range) → AllByRecursion (λ c. length c ≤ 64) (orders rs)
 orders_short rs =
     all_between_from (order rs) (λ c. length c ≤ 64) 0 (length rs)
     (λ x _ _. all_between_from (step x) (λ c. length c ≤ 64) (low rs x + 1) (high rs x) (λ t _ _. (lit≤ tt, tt)))
@@ -63,12 +63,12 @@ unfolding output
 output_few v = omega (arith, written_few v.ranges v.root (orders v.ranges), orders_few v.ranges (length v.ranges))
 
 -- each clause fits under the header
-pub output_proper : (v : View) → Named v.root → Fixed v.root → All (λ w. proper_clause (header_of v).variables w ≡ true) (output v)
+pub output_proper : (v : View) → Named v.root → Fixed v.root → AllByRecursion (λ w. proper_clause (header_of v).variables w ≡ true) (output v)
 unfolding output
 output_proper v named fixed = all_proper v.ranges v.root named fixed (orders v.ranges) (orders_short v.ranges)
 
 -- costs are small
-pub total_small : (k : Costs) → Lawful k → (n : ℕ) → n ≤ 4096 → (ws : List (List Lit)) → All (λ w. proper_clause n w ≡ true) ws → total_cost k ws ≤ 1024 * length ws
+pub total_small : (k : Costs) → Lawful k → (n : ℕ) → n ≤ 4096 → (ws : List (List Lit)) → AllByRecursion (λ w. proper_clause n w ≡ true) ws → total_cost k ws ≤ 1024 * length ws
 total_small k law n h [] all = lit≤ tt
 total_small k law n h (w ∷ ws) all = omega (arith, law.small_clause n w h all.0, total_small k law n h ws all.1, mul-suc 1024 (length ws))
 
@@ -81,7 +81,7 @@ free_few f (suc n) = omega (arith, one (own f (suc n)), free_few f n)
     one false = lit≤ tt
 
 -- a sink with a header and room for all takes all
-pub takes_all : (k : Costs) (h : Header) (ws : List (List Lit)) (s : State) → s.header ≡ Some h → All (λ w. proper_clause h.variables w ≡ true) ws → total_cost k ws ≤ s.left → with_clauses k s ws ≡ record { header = s.header; clauses = s.clauses ++ ws; left = s.left - total_cost k ws }
+pub takes_all : (k : Costs) (h : Header) (ws : List (List Lit)) (s : State) → s.header ≡ Some h → AllByRecursion (λ w. proper_clause h.variables w ≡ true) ws → total_cost k ws ≤ s.left → with_clauses k s ws ≡ record { header = s.header; clauses = s.clauses ++ ws; left = s.left - total_cost k ws }
 takes_all k h [] s e all fits = λ i. record { header = s.header; clauses = sym (append-nil s.clauses) i; left = left i }
   where
     left : s.left ≡ s.left - 0

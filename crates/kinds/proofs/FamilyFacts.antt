@@ -1,6 +1,6 @@
 -- What a family of pairings gives: laws, own variables, and how many. Assumes nothing.
 use Rattle.std.proofs.Common.{◌≡◌, ℕ, ◌+◌, ◌<◌, ◌≤◌, Bool, true, ◌&&◌, leb, List, length, arith, lit≤}
-use Rattle.std.specs.List.{AllByRecursion as All}
+use Rattle.std.specs.List.{AllByRecursion}
 use Rattle.std.proofs.lemmas.Bool.{and_parts}
 use Rattle.std.proofs.lemmas.Bool.Decides.{nat_tests}
 use Rattle.order.specs.declared.bound.Bound.{Bound}
@@ -20,7 +20,7 @@ settled_is l h x k a b p q = grind (arith, nat_tests)
 
 module _ (rs : List Range) (s : ℕ) (f : ℕ → ℕ → Tie) (sl su pl pu : ℕ) where
   -- what holds of each pairing
-  family_all : (P : Pairing → Type 0) → ((k i : ℕ) → All P (given rs s f k i)) → All P (family rs s f sl su pl pu)
+  family_all : (P : Pairing → Type 0) → ((k i : ℕ) → AllByRecursion P (given rs s f k i)) → AllByRecursion P (family rs s f sl su pl pu)
   family_all P h = all_between_from (given_all rs s f pl pu) P sl su (λ k _ _. all_between_from (given rs s f k) P pl pu (λ i _ _. h k i))
 
   module _ (v : ℕ → ℕ) (in_range : InRange rs v) where
@@ -28,7 +28,7 @@ module _ (rs : List Range) (s : ℕ) (f : ℕ → ℕ → Tie) (sl su pl pu : �
     has_value k = settled_is (low rs s) (high rs s) (v s) k (in_range.above s) (in_range.below s)
 
     -- each tie follows where s has the value
-    pub family_paired : ((k i : ℕ) → v s ≡ k → Kept v (f k i)) → All (Follows v) (family rs s f sl su pl pu)
+    pub family_paired : ((k i : ℕ) → v s ≡ k → Kept v (f k i)) → AllByRecursion (Follows v) (family rs s f sl su pl pu)
     family_paired h = family_all (Follows v) (λ k i. (λ p. h k i (has_value k p.0 p.1.0), tt))
 
     -- s has a value, and each tie of that value is kept
@@ -43,10 +43,10 @@ module _ (rs : List Range) (s : ℕ) (f : ℕ → ℕ → Tie) (sl su pl pu : �
           λ i l u. kept (f k i).left (f k i).right (all_between_at (λ i. stands tied (f k i)) pl pu both.1 i l u),
         )
 
-  pub family_own : (items : List Item) → names items s ≡ true → ((k i : ℕ) → OwnTie items (f k i)) → All (OwnPairing items) (family rs s f sl su pl pu)
+  pub family_own : (items : List Item) → names items s ≡ true → ((k i : ℕ) → OwnTie items (f k i)) → AllByRecursion (OwnPairing items) (family rs s f sl su pl pu)
   family_own items o h = family_all (OwnPairing items) (λ k i. ((((o, o), ((o, o), tt)), h k i), tt))
 
-  pub family_short : All (λ p. length p.premise ≤ 4) (family rs s f sl su pl pu)
+  pub family_short : AllByRecursion (λ p. length p.premise ≤ 4) (family rs s f sl su pl pu)
   family_short = family_all (λ p. length p.premise ≤ 4) (λ k i. (lit≤ tt, tt))
 
   pub family_few : su ≤ sl + 256 → pu ≤ pl + 257 → length (family rs s f sl su pl pu) ≤ 65792

@@ -1,6 +1,6 @@
 -- Lists and tests over a stretch of numbers: what holds of each number, and of one number more. Assumes nothing.
 use Rattle.std.proofs.Common.{◌≡◌, ℕ, zero, suc, ◌+◌, ◌-◌, ◌*◌, ◌<◌, ◌≤◌, Bool, true, false, ◌&&◌, ◌||◌, ◌⊎◌, List, [], ◌∷◌, ◌++◌, length, refl, ap, ◌∙◌, inl, inr, ⊎_elim, zero-le, le_trans, mul-le-mul_right, suc-mul, arith, length-append}
-use Rattle.std.specs.List.{AllByRecursion as All}
+use Rattle.std.specs.List.{AllByRecursion}
 use Rattle.std.proofs.ByRecursion.{All-append}
 use Rattle.std.proofs.lemmas.Bool.{and_parts, or_cases, or_left, or_right, cases_order, cases_Bool, both_ways, false≢true}
 use Rattle.order.specs.Between.{run, between}
@@ -14,32 +14,32 @@ none_in : (a i : ℕ) → a ≤ i → i < a + zero → ⊥
 none_in a i l u = omega arith
 
 module _ {X : Type 0} (f : ℕ → List X) where
-  all_run : (P : X → Type 0) (a n : ℕ) → ((i : ℕ) → a ≤ i → i < a + n → All P (f i)) → All P (run f a n)
+  all_run : (P : X → Type 0) (a n : ℕ) → ((i : ℕ) → a ≤ i → i < a + n → AllByRecursion P (f i)) → AllByRecursion P (run f a n)
   all_run P a zero h = tt
   all_run P a (suc n) h = All-append P (f a) (run f (a + 1) n) (h a (omega arith) (omega arith)) (all_run P (a + 1) n (λ i l u. h i (omega arith) (omega arith)))
 
   -- what holds of each number's list holds of all that is joined
-  pub all_between_from : (P : X → Type 0) (a b : ℕ) → ((i : ℕ) → a ≤ i → i < b → All P (f i)) → All P (between f a b)
+  pub all_between_from : (P : X → Type 0) (a b : ℕ) → ((i : ℕ) → a ≤ i → i < b → AllByRecursion P (f i)) → AllByRecursion P (between f a b)
   all_between_from P a b h = all_run P a (b - a) (λ i l u. h i l (omega arith))
 
-  all_front : (P : X → Type 0) (xs ys : List X) → All P (xs ++ ys) → All P xs
+  all_front : (P : X → Type 0) (xs ys : List X) → AllByRecursion P (xs ++ ys) → AllByRecursion P xs
   all_front P [] ys h = tt
   all_front P (x ∷ xs) ys h = (h.0, all_front P xs ys h.1)
 
-  all_back : (P : X → Type 0) (xs ys : List X) → All P (xs ++ ys) → All P ys
+  all_back : (P : X → Type 0) (xs ys : List X) → AllByRecursion P (xs ++ ys) → AllByRecursion P ys
   all_back P [] ys h = h
   all_back P (x ∷ xs) ys h = all_back P xs ys h.1
 
-  run_all : (P : X → Type 0) (a n : ℕ) → All P (run f a n) → (i : ℕ) → a ≤ i → i < a + n → All P (f i)
+  run_all : (P : X → Type 0) (a n : ℕ) → AllByRecursion P (run f a n) → (i : ℕ) → a ≤ i → i < a + n → AllByRecursion P (f i)
   run_all P a zero h i l u = absurd (none_in a i l u)
   run_all P a (suc n) h i l u =
       ⊎_elim
-      (λ e. let g : All P (f a) = all_front P (f a) (run f (a + 1) n) h in rw (← e) g)
+      (λ e. let g : AllByRecursion P (f a) = all_front P (f a) (run f (a + 1) n) h in rw (← e) g)
       (λ q. run_all P (a + 1) n (all_back P (f a) (run f (a + 1) n) h) i q (omega arith))
       (from_next a i l)
 
   -- and back
-  pub between_all : (P : X → Type 0) (a b : ℕ) → All P (between f a b) → (i : ℕ) → a ≤ i → i < b → All P (f i)
+  pub between_all : (P : X → Type 0) (a b : ℕ) → AllByRecursion P (between f a b) → (i : ℕ) → a ≤ i → i < b → AllByRecursion P (f i)
   between_all P a b h i l u = run_all P a (b - a) h i l (omega arith)
 
   length_run : (m : ℕ) → ((i : ℕ) → length (f i) ≤ m) → (a n : ℕ) → length (run f a n) ≤ n * m

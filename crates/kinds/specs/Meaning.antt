@@ -1,6 +1,6 @@
 -- What a kind of row means, and the laws that it must keep. Assumes nothing.
 use Rattle.std.specs.Prelude.{◌≡◌, ℕ, ◌≤◌, Bool, true, false, ◌||◌, List, [], ◌∷◌, length, slice_index}
-use Rattle.std.specs.List.{AllByRecursion as All}
+use Rattle.std.specs.List.{AllByRecursion}
 use Rattle.order.specs.declared.bound.Bound.{Bound}
 use Rattle.order.specs.declared.range.Range.{Range}
 use Rattle.order.specs.Bounds.{holds, InRange}
@@ -28,7 +28,7 @@ Kept v t = holds v t.left ≡ holds v t.right
 
 -- where the values satisfy a pairing's premise, they satisfy its tie
 abbrev pub Follows : (ℕ → ℕ) → Pairing → Type 0
-Follows v p = All (Kept v) p.premise → Kept v p.gives
+Follows v p = AllByRecursion (Kept v) p.premise → Kept v p.gives
 
 -- the values respect ties
 abbrev pub Respects : (ℕ → ℕ) → (Bound → Bound → Bool) → Type 0
@@ -62,7 +62,7 @@ abbrev pub OwnTie : List Item → Tie → Type 0
 OwnTie items t = Own items t.left × Own items t.right
 
 abbrev pub OwnPairing : List Item → Pairing → Type 0
-OwnPairing items p = All (OwnTie items) p.premise × OwnTie items p.gives
+OwnPairing items p = AllByRecursion (OwnTie items) p.premise × OwnTie items p.gives
 
 -- the variables of a row have the same ranges
 abbrev pub Agree : List Item → List Range → List Range → Type 0
@@ -71,15 +71,15 @@ Agree items rs rs' = (x : ℕ) → names items x ≡ true → (low rs x ≡ low 
 -- what each kind must show
 pub record Lawful (m : Meaning) : Type 0 where
   -- values in range meet a row exactly when they satisfy its clauses
-  pub sound : (items : List Item) (rs : List Range) (v : ℕ → ℕ) → Apt m items rs → InRange rs v → m.meets items v ≡ true → All (Met v) (m.clauses items rs)
-  pub complete : (items : List Item) (rs : List Range) (v : ℕ → ℕ) → Apt m items rs → InRange rs v → All (Met v) (m.clauses items rs) → m.meets items v ≡ true
+  pub sound : (items : List Item) (rs : List Range) (v : ℕ → ℕ) → Apt m items rs → InRange rs v → m.meets items v ≡ true → AllByRecursion (Met v) (m.clauses items rs)
+  pub complete : (items : List Item) (rs : List Range) (v : ℕ → ℕ) → Apt m items rs → InRange rs v → AllByRecursion (Met v) (m.clauses items rs) → m.meets items v ≡ true
   -- values that meet a row and a pairing's premise satisfy its tie
-  pub paired : (items : List Item) (rs : List Range) (v : ℕ → ℕ) → Apt m items rs → InRange rs v → m.meets items v ≡ true → All (Follows v) (m.pairings items rs)
+  pub paired : (items : List Item) (rs : List Range) (v : ℕ → ℕ) → Apt m items rs → InRange rs v → m.meets items v ≡ true → AllByRecursion (Follows v) (m.pairings items rs)
   -- values that respect ties under which a row is spent meet it
   pub spent : (items : List Item) (rs : List Range) (v : ℕ → ℕ) → Apt m items rs → InRange rs v → (tied : Bound → Bound → Bool) → Respects v tied → m.spends items rs tied ≡ true → m.meets items v ≡ true
   -- clauses and ties use bounds of the row's own variables, and depend on their ranges alone
-  pub own_clauses : (items : List Item) (rs : List Range) → Apt m items rs → All (All (Own items)) (m.clauses items rs)
-  pub own_pairings : (items : List Item) (rs : List Range) → Apt m items rs → All (OwnPairing items) (m.pairings items rs)
+  pub own_clauses : (items : List Item) (rs : List Range) → Apt m items rs → AllByRecursion (AllByRecursion (Own items)) (m.clauses items rs)
+  pub own_pairings : (items : List Item) (rs : List Range) → Apt m items rs → AllByRecursion (OwnPairing items) (m.pairings items rs)
   pub same_clauses : (items : List Item) (rs rs' : List Range) → Apt m items rs → Agree items rs rs' → m.clauses items rs' ≡ m.clauses items rs
   pub same_pairings : (items : List Item) (rs rs' : List Range) → Apt m items rs → Agree items rs rs' → m.pairings items rs' ≡ m.pairings items rs
   pub same_fits : (items : List Item) (rs rs' : List Range) → Apt m items rs → Agree items rs rs' → m.fits items rs' ≡ true
@@ -87,10 +87,10 @@ pub record Lawful (m : Meaning) : Type 0 where
   pub same_meets : (items : List Item) (u v : ℕ → ℕ) → m.formed items ≡ true → ((x : ℕ) → names items x ≡ true → u x ≡ v x) → m.meets items u ≡ m.meets items v
   -- the limits
   pub short : m.longest ≤ 64
-  pub short_clauses : (items : List Item) (rs : List Range) → Apt m items rs → All (λ c. length c ≤ m.longest) (m.clauses items rs)
+  pub short_clauses : (items : List Item) (rs : List Range) → Apt m items rs → AllByRecursion (λ c. length c ≤ m.longest) (m.clauses items rs)
   pub few_clauses : (items : List Item) (rs : List Range) → Apt m items rs → length (m.clauses items rs) ≤ 131072
   pub few_pairings : (items : List Item) (rs : List Range) → Apt m items rs → length (m.pairings items rs) ≤ 262144
-  pub short_premises : (items : List Item) (rs : List Range) → Apt m items rs → All (λ p. length p.premise ≤ 4) (m.pairings items rs)
+  pub short_premises : (items : List Item) (rs : List Range) → Apt m items rs → AllByRecursion (λ p. length p.premise ≤ 4) (m.pairings items rs)
 
 -- a kind that takes no row
 abbrev pub no_kind : Meaning

@@ -1,7 +1,7 @@
 -- The laws of a row that orders two variables. Assumes nothing.
 use Rattle.std.specs.Prelude.{◌≡◌, ℕ, ◌+◌, ◌≤◌, true, false, ◌||◌, List, length, nat_le, nat_lt, refl}
 use Rattle.std.proofs.Common.{sym, le_trans, arith, lit<, lit≤}
-use Rattle.std.specs.List.{AllByRecursion as All}
+use Rattle.std.specs.List.{AllByRecursion}
 use Rattle.std.proofs.lemmas.Bool.{false≢true}
 use Rattle.std.proofs.lemmas.Bool.Decides.{nat_tests}
 use Rattle.order.specs.declared.bound.Bound.{Bound}
@@ -24,10 +24,10 @@ by_met : (x y : ℕ) → (nat_lt x x || (nat_le x y || false)) ≡ true → nat_
 by_met x y h = grind (arith, nat_tests)
 
 module _ (rs : List Range) (a b : ℕ) where
-  all_rises : (P : List Bound → Type 0) → ((t : ℕ) → All P (rise a b t)) → All P (rises rs a b)
+  all_rises : (P : List Bound → Type 0) → ((t : ℕ) → AllByRecursion P (rise a b t)) → AllByRecursion P (rises rs a b)
   all_rises P h = all_between_from (rise a b) P (low rs a) (high rs a + 1) (λ t _ _. h t)
 
-  complete_from : (v : ℕ → ℕ) → InRange rs v → All (Met v) (rises rs a b) → nat_le (v a) (v b) ≡ true
+  complete_from : (v : ℕ → ℕ) → InRange rs v → AllByRecursion (Met v) (rises rs a b) → nat_le (v a) (v b) ≡ true
   complete_from v within all =
       by_met (v a) (v b) (between_all (rise a b) (Met v) (low rs a) (high rs a + 1) all (v a) (within.above a) (omega (arith, within.below a))).0
 
@@ -43,7 +43,7 @@ leq_lawful = record {
   complete = λ items rs v apt within all. complete_from rs (var items 0) (var items 1) v within all;
   paired = λ items rs v apt within m. tt;
   spent = λ items rs v apt within tied kept s. absurd (false≢true s);
-  own_clauses = λ items rs apt. let own = owned 2 items apt.0 in all_rises rs (var items 0) (var items 1) (All (Own items)) (λ t. ((own 0 (lit< tt), (own 1 (lit< tt), tt)), tt));
+  own_clauses = λ items rs apt. let own = owned 2 items apt.0 in all_rises rs (var items 0) (var items 1) (AllByRecursion (Own items)) (λ t. ((own 0 (lit< tt), (own 1 (lit< tt), tt)), tt));
   own_pairings = λ items rs apt. tt;
   same_clauses = λ items rs rs' apt agree. let e = same_ends 2 items apt.0 rs rs' agree 0 (lit< tt) in rises_same rs rs' (var items 0) (var items 1) e.0 e.1;
   same_pairings = λ items rs rs' apt agree. refl;

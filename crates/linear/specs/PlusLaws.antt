@@ -2,7 +2,7 @@
 use Rattle.std.specs.Prelude.{◌≡◌, ℕ, ◌+◌, ◌-◌, ◌≤◌, Bool, true, false, ◌||◌, List, ◌++◌, length, ◌==◌, nat_eq, nat_le, nat_lt, refl}
 use Rattle.std.proofs.Common.{sym, subst, arith, lit<, lit≤, length-append}
 use Rattle.std.proofs.Math.Logic.{inl, inr}
-use Rattle.std.specs.List.{AllByRecursion as All}
+use Rattle.std.specs.List.{AllByRecursion}
 use Rattle.std.proofs.ByRecursion.{All-append}
 use Rattle.std.proofs.lemmas.Bool.{or_cases, eqb-true, eq-eqb}
 use Rattle.std.proofs.lemmas.Bool.Decides.{nat_tests}
@@ -62,7 +62,7 @@ by_kept Difference v p q k h g = by_difference_ties (v p) (v q) k h g
 
 module _ (rs : List Range) (s : ℕ) (l : Link) (p q : ℕ) where
   module _ (v : ℕ → ℕ) (within : InRange rs v) where
-    links_follow : Says l (v p) (v q) (v s) → All (Follows v) (links rs s l p q)
+    links_follow : Says l (v p) (v q) (v s) → AllByRecursion (Follows v) (links rs s l p q)
     links_follow h =
         family_paired rs s (linked l p q) (low rs s) (high rs s + 1) (low rs p) (high rs p + 2) v within (λ k i e. kept l v p q k i (subst (Says l (v p) (v q)) e h))
 
@@ -73,14 +73,14 @@ module _ (rs : List Range) (s : ℕ) (l : Link) (p q : ℕ) where
         let hi = within.below p in
         subst (Says l (v p) (v q)) (sym f.1) (by_kept l v p q f.0 (f.2 (v p) (omega arith) (omega arith)) (f.2 (v p + 1) (omega arith) (omega arith)))
 
-  links_own : (items : List Item) → names items s ≡ true → names items p ≡ true → names items q ≡ true → All (OwnPairing items) (links rs s l p q)
+  links_own : (items : List Item) → names items s ≡ true → names items p ≡ true → names items q ≡ true → AllByRecursion (OwnPairing items) (links rs s l p q)
   links_own items os op oq = family_own rs s (linked l p q) (low rs s) (high rs s + 1) (low rs p) (high rs p + 2) items os (own_tie l)
     where
       own_tie : (l : Link) (k i : ℕ) → (names items (linked l p q k i).left.variable ≡ true) × (names items (linked l p q k i).right.variable ≡ true)
       own_tie Sum k i = (op, oq)
       own_tie Difference k i = (op, oq)
 
-  links_short : All (λ p. length p.premise ≤ 4) (links rs s l p q)
+  links_short : AllByRecursion (λ p. length p.premise ≤ 4) (links rs s l p q)
   links_short = family_short rs s (linked l p q) (low rs s) (high rs s + 1) (low rs p) (high rs p + 2)
 
   links_few : length (links rs s l p q) ≤ 65792
@@ -91,13 +91,13 @@ module _ (rs : List Range) (s : ℕ) (l : Link) (p q : ℕ) where
       sym (family_same rs rs' s (linked l p q) (linked l p q) es.0 es.1 (λ k i. refl) (low rs s) (high rs s + 1) (low rs p) (high rs p + 2) (low rs' s) (high rs' s + 1) (low rs' p) (high rs' p + 2) es.0 (λ i. es.1 i + 1) ep.0 (λ i. ep.1 i + 2))
 
 module _ (rs : List Range) (a b c : ℕ) where
-  all_corners : (P : List Bound → Type 0) → ((i j : ℕ) → All P (corner a b c i j)) → All P (corners rs a b c)
+  all_corners : (P : List Bound → Type 0) → ((i j : ℕ) → AllByRecursion P (corner a b c i j)) → AllByRecursion P (corners rs a b c)
   all_corners P h = all_between_from (corner_row rs a b c) P (low rs a) (high rs a + 1) (λ i _ _. all_between_from (corner a b c i) P (low rs b) (high rs b + 1) (λ j _ _. h i j))
 
   few : length (corners rs a b c) ≤ 131072
   few = length_between (corner_row rs a b c) 512 (λ i. length_between (corner a b c i) 2 (λ j. lit≤ tt) (low rs b) (high rs b + 1) 256 (omega (arith, range_small rs b))) (low rs a) (high rs a + 1) 256 (omega (arith, range_small rs a))
 
-  all_three : (P : Pairing → Type 0) → All P (links rs c Sum a b) → All P (links rs a Difference b c) → All P (links rs b Difference a c) → All P (all_links rs a b c)
+  all_three : (P : Pairing → Type 0) → AllByRecursion P (links rs c Sum a b) → AllByRecursion P (links rs a Difference b c) → AllByRecursion P (links rs b Difference a c) → AllByRecursion P (all_links rs a b c)
   all_three P x y z = All-append P (links rs c Sum a b) (links rs a Difference b c ++ links rs b Difference a c) x (All-append P (links rs a Difference b c) (links rs b Difference a c) y z)
 
   few_ties : length (all_links rs a b c) ≤ 262144
@@ -112,13 +112,13 @@ module _ (rs : List Range) (a b c : ℕ) where
       )
 
   module _ (v : ℕ → ℕ) (within : InRange rs v) where
-    complete_from : All (Met v) (corners rs a b c) → (v a + v b == v c) ≡ true
+    complete_from : AllByRecursion (Met v) (corners rs a b c) → (v a + v b == v c) ≡ true
     complete_from all =
         let row = between_all (corner_row rs a b c) (Met v) (low rs a) (high rs a + 1) all (v a) (within.above a) (omega (arith, within.below a)) in
         let at = between_all (corner a b c (v a)) (Met v) (low rs b) (high rs b + 1) row (v b) (within.above b) (omega (arith, within.below b)) in
         by_both (v a) (v b) (v c) at.0 at.1.0
 
-    paired_from : nat_eq (v a + v b) (v c) ≡ true → All (Follows v) (all_links rs a b c)
+    paired_from : nat_eq (v a + v b) (v c) ≡ true → AllByRecursion (Follows v) (all_links rs a b c)
     unfolding Says
     paired_from m =
         let e : v a + v b ≡ v c = eqb-true (v a + v b) (v c) m in
@@ -155,7 +155,7 @@ plus_lawful = record {
       let oa = owned 3 items apt.0 0 (lit< tt) in
       let ob = owned 3 items apt.0 1 (lit< tt) in
       let oc = owned 3 items apt.0 2 (lit< tt) in
-      all_corners rs (var items 0) (var items 1) (var items 2) (All (Own items)) (λ i j. ((oa, (ob, (oc, tt))), ((oa, (ob, (oc, tt))), tt)));
+      all_corners rs (var items 0) (var items 1) (var items 2) (AllByRecursion (Own items)) (λ i j. ((oa, (ob, (oc, tt))), ((oa, (ob, (oc, tt))), tt)));
   own_pairings = λ items rs apt.
       let oa = owned 3 items apt.0 0 (lit< tt) in
       let ob = owned 3 items apt.0 1 (lit< tt) in

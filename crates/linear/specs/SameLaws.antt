@@ -1,7 +1,7 @@
 -- The laws of a row that equates two variables. Assumes nothing.
 use Rattle.std.specs.Prelude.{◌≡◌, ℕ, ◌+◌, ◌<◌, ◌≤◌, min, max, true, false, ◌||◌, List, length, ◌==◌, nat_le, nat_lt, refl}
 use Rattle.std.proofs.Common.{sym, inl, inr, le_trans, arith, lit<, lit≤}
-use Rattle.std.specs.List.{AllByRecursion as All}
+use Rattle.std.specs.List.{AllByRecursion}
 use Rattle.std.proofs.lemmas.Bool.{false≢true, cases_order, eq-eqb}
 use Rattle.std.proofs.lemmas.Bool.Decides.{nat_tests}
 use Rattle.order.specs.declared.bound.Bound.{Bound}
@@ -34,13 +34,13 @@ not_below : (x y : ℕ) → y < x → (nat_lt x x || (nat_le x y || false)) ≡ 
 not_below x y l h = grind (arith, nat_tests)
 
 module _ (rs : List Range) (a b : ℕ) where
-  all_levels : (P : List Bound → Type 0) → ((t : ℕ) → All P (level a b t)) → All P (levels rs a b)
+  all_levels : (P : List Bound → Type 0) → ((t : ℕ) → AllByRecursion P (level a b t)) → AllByRecursion P (levels rs a b)
   all_levels P h = all_between_from (level a b) P (start rs a b) (end rs a b) (λ t _ _. h t)
 
-  all_matches : (P : Pairing → Type 0) → ((t : ℕ) → All P (match a b t)) → All P (matches rs a b)
+  all_matches : (P : Pairing → Type 0) → ((t : ℕ) → AllByRecursion P (match a b t)) → AllByRecursion P (matches rs a b)
   all_matches P h = all_between_from (match a b) P (start rs a b) (end rs a b) (λ t _ _. h t)
 
-  complete_from : (v : ℕ → ℕ) → InRange rs v → All (Met v) (levels rs a b) → (v a == v b) ≡ true
+  complete_from : (v : ℕ → ℕ) → InRange rs v → AllByRecursion (Met v) (levels rs a b) → (v a == v b) ≡ true
   complete_from v within all =
       let at = between_all (level a b) (Met v) (start rs a b) (end rs a b) all in
       let la = within.above a in
@@ -75,7 +75,7 @@ same_lawful = record {
   own_clauses = λ items rs apt.
       let oa = owned 2 items apt.0 0 (lit< tt) in
       let ob = owned 2 items apt.0 1 (lit< tt) in
-      all_levels rs (var items 0) (var items 1) (All (Own items)) (λ t. ((oa, (ob, tt)), ((oa, (ob, tt)), tt)));
+      all_levels rs (var items 0) (var items 1) (AllByRecursion (Own items)) (λ t. ((oa, (ob, tt)), ((oa, (ob, tt)), tt)));
   own_pairings = λ items rs apt. let own = owned 2 items apt.0 in all_matches rs (var items 0) (var items 1) (OwnPairing items) (λ t. ((tt, (own 0 (lit< tt), own 1 (lit< tt))), tt));
   same_clauses = λ items rs rs' apt agree. let e = same_ends 2 items apt.0 rs rs' agree in over_same (level (var items 0) (var items 1)) rs rs' (var items 0) (var items 1) (e 0 (lit< tt)) (e 1 (lit< tt));
   same_pairings = λ items rs rs' apt agree. let e = same_ends 2 items apt.0 rs rs' agree in over_same (match (var items 0) (var items 1)) rs rs' (var items 0) (var items 1) (e 0 (lit< tt)) (e 1 (lit< tt));

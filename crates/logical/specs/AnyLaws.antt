@@ -1,7 +1,7 @@
 -- The laws of bounds of which at least one holds. Assumes nothing.
 use Rattle.std.specs.Prelude.{◌≡◌, ℕ, ◌+◌, ◌<◌, ◌≤◌, min, true, ◌&&◌, ◌⊎◌, List, [], ◌∷◌, ◌++◌, length, take, ◌==◌, nat_le, slice_index_or, slice_set, refl}
 use Rattle.std.proofs.Common.{sym, ap, subst, ◌∙◌, inl, inr, arith, lit≤}
-use Rattle.std.specs.List.{AllByRecursion as All}
+use Rattle.std.specs.List.{AllByRecursion}
 use Rattle.std.proofs.ByRecursion.{All-weaker}
 use Rattle.std.proofs.lemmas.List.{length-map, take_all, map_more, take_more_set}
 use Rattle.std.proofs.lemmas.Bool.{false≢true, and_parts, leb-true, or_left, or_right, eq-eqb, cases_lt}
@@ -21,7 +21,7 @@ bound_variable (Bounded b) = refl
 own_first : (i : Item) (items : List Item) → Own (i ∷ items) (bound_of i)
 own_first i items = or_left (variable_of i == (bound_of i).variable) (names items (bound_of i).variable) (eq-eqb (variable_of i) (bound_of i).variable (bound_variable i))
 
-own_bounds : (items : List Item) → All (Own items) (bounds items)
+own_bounds : (items : List Item) → AllByRecursion (Own items) (bounds items)
 own_bounds [] = tt
 own_bounds (i ∷ items) = (own_first i items, All-weaker (Own items) (Own (i ∷ items)) (λ b o. or_right (variable_of i == b.variable) (names items b.variable) o) (bounds items) (own_bounds items))
 
@@ -29,7 +29,7 @@ own_bounds (i ∷ items) = (own_first i items, All-weaker (Own items) (Own (i �
 holds_same : (u v : ℕ → ℕ) (b : Bound) → u b.variable ≡ v b.variable → holds u b ≡ holds v b
 holds_same u v b e = cc
 
-some_same : (u v : ℕ → ℕ) (c : List Bound) → All (λ b. u b.variable ≡ v b.variable) c → some_holds u c ≡ some_holds v c
+some_same : (u v : ℕ → ℕ) (c : List Bound) → AllByRecursion (λ b. u b.variable ≡ v b.variable) c → some_holds u c ≡ some_holds v c
 some_same u v [] h = refl
 some_same u v (b ∷ c) h = let e = holds_same u v b h.0 in let r = some_same u v c h.1 in cc
 
@@ -50,7 +50,7 @@ any_lawful = record {
   complete = λ items rs v apt within all. subst (Met v) (whole items apt.0) all.0;
   paired = λ items rs v apt within m. tt;
   spent = λ items rs v apt within tied kept s. absurd (false≢true s);
-  own_clauses = λ items rs apt. (whole_says items apt.0 (All (Own items)) (own_bounds items), tt);
+  own_clauses = λ items rs apt. (whole_says items apt.0 (AllByRecursion (Own items)) (own_bounds items), tt);
   own_pairings = λ items rs apt. tt;
   same_clauses = λ items rs rs' apt same. refl;
   same_pairings = λ items rs rs' apt same. refl;

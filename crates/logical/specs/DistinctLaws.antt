@@ -1,7 +1,7 @@
 -- The laws of variables that all differ. Assumes nothing.
 use Rattle.std.specs.Prelude.{◌≡◌, ℕ, ◌+◌, ◌-◌, ◌<◌, ◌≤◌, true, false, cond, not, ◌&&◌, List, [], length, ◌==◌, ◌≢◌, nat_le, refl}
 use Rattle.std.proofs.Common.{ap, ⊎_elim, arith, lit≤}
-use Rattle.std.specs.List.{AllByRecursion as All}
+use Rattle.std.specs.List.{AllByRecursion}
 use Rattle.std.proofs.lemmas.Bool.{false≢true, and_parts, leb-true, eqb-false, cases_order, cond_both}
 use Rattle.std.proofs.lemmas.Bool.Decides.{nat_tests}
 use Rattle.order.specs.declared.bound.Bound.{Bound}
@@ -51,15 +51,15 @@ module _ (items : List Item) where
 
   module _ (rs : List Range) where
     -- what holds of the clauses of each two places, and of the pairings of each two that differ
-    all_pairs : (P : List Bound → Type 0) → ((p q : ℕ) → p < many → p < q → q < many → All P (apart_pair items rs p q)) → All P (all_apart items rs)
+    all_pairs : (P : List Bound → Type 0) → ((p q : ℕ) → p < many → p < q → q < many → AllByRecursion P (apart_pair items rs p q)) → AllByRecursion P (all_apart items rs)
     all_pairs P h =
         all_between_from (apart_later items rs) P 0 many (λ p _ u. all_between_from (apart_pair items rs p) P (p + 1) many (λ q l k. h p q u (omega arith) k))
 
-    all_others : (P : Pairing → Type 0) → ((p q : ℕ) → p < many → q < many → (p ≢ q) → All P (excludes_each rs (var items p) (var items q))) → All P (all_exclude items rs)
+    all_others : (P : Pairing → Type 0) → ((p q : ℕ) → p < many → q < many → (p ≢ q) → AllByRecursion P (excludes_each rs (var items p) (var items q))) → AllByRecursion P (all_exclude items rs)
     all_others P h =
-        all_between_from (excludes_others items rs) P 0 many (λ p _ u. all_between_from (excludes_pair items rs p) P 0 many (λ q _ k. cond_both (p == q) [] (excludes_each rs (var items p) (var items q)) (All P) (λ _. tt) (λ e. h p q u k (eqb-false p q e))))
+        all_between_from (excludes_others items rs) P 0 many (λ p _ u. all_between_from (excludes_pair items rs p) P 0 many (λ q _ k. cond_both (p == q) [] (excludes_each rs (var items p) (var items q)) (AllByRecursion P) (λ _. tt) (λ e. h p q u k (eqb-false p q e))))
 
-    distinct_complete : (v : ℕ → ℕ) → InRange rs v → All (Met v) (all_apart items rs) → all_differ items v ≡ true
+    distinct_complete : (v : ℕ → ℕ) → InRange rs v → AllByRecursion (Met v) (all_apart items rs) → all_differ items v ≡ true
     distinct_complete v within all =
         all_from (differ_later items v) 0 many (λ p l u. all_from (differ items v p) (p + 1) many (λ q m k.
         apart_complete rs (var items p) (var items q) v within
@@ -101,7 +101,7 @@ distinct_lawful = record {
   complete = λ items rs v apt within all. distinct_complete items rs v within all;
   paired = λ items rs v apt within m. all_others items rs (Follows v) (λ p q l u ne. each_follows rs (var items p) (var items q) v within (differ_apart items v m p q l u ne));
   spent = λ items rs v apt within tied kept s. absurd (false≢true s);
-  own_clauses = λ items rs apt. all_pairs items rs (All (Own items)) (λ p q l _ u. apart_own rs (var items p) (var items q) items (own_var items p l) (own_var items q u));
+  own_clauses = λ items rs apt. all_pairs items rs (AllByRecursion (Own items)) (λ p q l _ u. apart_own rs (var items p) (var items q) items (own_var items p l) (own_var items q u));
   own_pairings = λ items rs apt. all_others items rs (OwnPairing items) (λ p q l u _. each_own rs (var items p) (var items q) items (own_var items p l) (own_var items q u));
   same_clauses = λ items rs rs' apt same. distinct_same items rs rs' same;
   same_pairings = λ items rs rs' apt same. distinct_same_pairings items rs rs' same;

@@ -1,7 +1,7 @@
 -- The laws of the greater and the lesser of two variables, for either direction. Assumes nothing.
 use Rattle.std.specs.Prelude.{◌≡◌, ℕ, ◌+◌, ◌*◌, ◌<◌, ◌≤◌, min, max, Bool, true, false, cond, not, ◌||◌, List, length, ◌==◌, nat_eq, nat_le, nat_lt, refl}
 use Rattle.std.proofs.Common.{⊎_elim, le_trans, arith, lit≤}
-use Rattle.std.specs.List.{AllByRecursion as All}
+use Rattle.std.specs.List.{AllByRecursion}
 use Rattle.std.proofs.lemmas.Bool.{false≢true, cases_order, eq-eqb}
 use Rattle.std.proofs.lemmas.Bool.Decides.{nat_tests}
 use Rattle.order.specs.declared.range.Range.{Range}
@@ -61,17 +61,17 @@ same_reach l h z w lz lw zh wh at =
 
 module _ (down : Bool) (rs : List Range) (a b c : ℕ) where
   -- what holds of the clauses, or the pairings, of each threshold
-  all_at : {X : Type 0} (f : ℕ → List X) (P : X → Type 0) → ((t : ℕ) → All P (f t)) → All P (between f (least_past rs a b c) (greatest_past rs a b c))
+  all_at : {X : Type 0} (f : ℕ → List X) (P : X → Type 0) → ((t : ℕ) → AllByRecursion P (f t)) → AllByRecursion P (between f (least_past rs a b c) (greatest_past rs a b c))
   all_at f P h = all_between_from f P (least_past rs a b c) (greatest_past rs a b c) (λ t _ _. h t)
 
   few_at : {X : Type 0} (f : ℕ → List X) (m : ℕ) → ((t : ℕ) → length (f t) ≤ m) → length (between f (least_past rs a b c) (greatest_past rs a b c)) ≤ 256 * m
   few_at f m h = length_between f m h (least_past rs a b c) (greatest_past rs a b c) 256 (omega (arith, range_small rs a, range_small rs b, range_small rs c))
 
   module _ (v : ℕ → ℕ) where
-    extreme_sound : nat_eq (v c) (extreme_of down (v a) (v b)) ≡ true → All (Met v) (extreme_clauses down rs a b c)
+    extreme_sound : nat_eq (v c) (extreme_of down (v a) (v b)) ≡ true → AllByRecursion (Met v) (extreme_clauses down rs a b c)
     extreme_sound m = all_at (chosen_at down a b c) (Met v) (λ t. (one_met down (v a) (v b) (v c) t m, (one_met down (v b) (v a) (v c) t (swapped down (v a) (v b) (v c) m), (both_met down (v a) (v b) (v c) t m, tt))))
 
-    extreme_complete : InRange rs v → All (Met v) (extreme_clauses down rs a b c) → (v c == extreme_of down (v a) (v b)) ≡ true
+    extreme_complete : InRange rs v → AllByRecursion (Met v) (extreme_clauses down rs a b c) → (v c == extreme_of down (v a) (v b)) ≡ true
     extreme_complete within all =
         let at = between_all (chosen_at down a b c) (Met v) (least_past rs a b c) (greatest_past rs a b c) all in
         let l = min (min (low rs a) (low rs b)) (low rs c) in
@@ -79,7 +79,7 @@ module _ (down : Bool) (rs : List Range) (a b c : ℕ) where
         let r = chosen_within down l h (v a) (v b) (omega (arith, within.above a)) (omega (arith, within.above b)) (omega (arith, within.below a)) (omega (arith, within.below b)) in
         same_reach l h (v c) (extreme_of down (v a) (v b)) (omega (arith, within.above c)) r.0 (omega (arith, within.below c)) r.1 (λ t p q. let m = at t p q in by_met down (v a) (v b) (v c) t m.0 m.1.0 m.1.1.0)
 
-    extreme_follows : InRange rs v → (v c == extreme_of down (v a) (v b)) ≡ true → All (Follows v) (extreme_pairings down rs a b c)
+    extreme_follows : InRange rs v → (v c == extreme_of down (v a) (v b)) ≡ true → AllByRecursion (Follows v) (extreme_pairings down rs a b c)
     extreme_follows within m =
         all_at (told_at down (passes rs a) (passes rs b) a b c) (Follows v) (λ t. (
           λ p. other_decides down (v a) (v b) (v c) t (high rs b) (within.below b) m p.0,
@@ -87,16 +87,16 @@ module _ (down : Bool) (rs : List Range) (a b c : ℕ) where
         ))
 
   module _ (items : List Item) (oa : names items a ≡ true) (ob : names items b ≡ true) (oc : names items c ≡ true) where
-    extreme_own : All (All (Own items)) (extreme_clauses down rs a b c)
-    extreme_own = all_at (chosen_at down a b c) (All (Own items)) (λ t. ((oa, (oc, tt)), ((ob, (oc, tt)), ((oa, (ob, (oc, tt))), tt))))
+    extreme_own : AllByRecursion (AllByRecursion (Own items)) (extreme_clauses down rs a b c)
+    extreme_own = all_at (chosen_at down a b c) (AllByRecursion (Own items)) (λ t. ((oa, (oc, tt)), ((ob, (oc, tt)), ((oa, (ob, (oc, tt))), tt))))
 
-    extreme_own_pairings : All (OwnPairing items) (extreme_pairings down rs a b c)
+    extreme_own_pairings : AllByRecursion (OwnPairing items) (extreme_pairings down rs a b c)
     extreme_own_pairings = all_at (told_at down (passes rs a) (passes rs b) a b c) (OwnPairing items) (λ t. ((((ob, ob), tt), (oc, oa)), ((((oa, oa), tt), (oc, ob)), tt)))
 
-  extreme_short : All (λ d. length d ≤ 3) (extreme_clauses down rs a b c)
+  extreme_short : AllByRecursion (λ d. length d ≤ 3) (extreme_clauses down rs a b c)
   extreme_short = all_at (chosen_at down a b c) (λ d. length d ≤ 3) (λ t. (lit≤ tt, (lit≤ tt, (lit≤ tt, tt))))
 
-  extreme_short_premises : All (λ p. length p.premise ≤ 4) (extreme_pairings down rs a b c)
+  extreme_short_premises : AllByRecursion (λ p. length p.premise ≤ 4) (extreme_pairings down rs a b c)
   extreme_short_premises = all_at (told_at down (passes rs a) (passes rs b) a b c) (λ p. length p.premise ≤ 4) (λ t. (lit≤ tt, (lit≤ tt, tt)))
 
 module _ (down : Bool) (items : List Item) (rs rs' : List Range) (n : length items ≡ 3) (same : Agree items rs rs') where

@@ -1,7 +1,7 @@
 -- The laws of two variables that differ. Assumes nothing.
 use Rattle.std.specs.Prelude.{◌≡◌, ℕ, ◌+◌, ◌*◌, ◌≤◌, true, false, not, ◌||◌, List, length, ◌==◌, ◌≢◌, nat_le, nat_lt, refl}
 use Rattle.std.proofs.Common.{⊎_elim, le_trans, arith, lit≤}
-use Rattle.std.specs.List.{AllByRecursion as All}
+use Rattle.std.specs.List.{AllByRecursion}
 use Rattle.std.proofs.lemmas.Bool.{false≢true, cases_eq}
 use Rattle.std.proofs.lemmas.Bool.Decides.{nat_tests}
 use Rattle.order.specs.declared.range.Range.{Range}
@@ -40,17 +40,17 @@ mirrored_skips x y t d e f = grind (arith, nat_tests)
 
 module _ (rs : List Range) (a b : ℕ) where
   -- what holds of the clauses, or of other lists, of each shared value
-  all_shared : {X : Type 0} (f : ℕ → List X) (P : X → Type 0) → ((t : ℕ) → All P (f t)) → All P (between f (shared_from rs a b) (shared_past rs a b))
+  all_shared : {X : Type 0} (f : ℕ → List X) (P : X → Type 0) → ((t : ℕ) → AllByRecursion P (f t)) → AllByRecursion P (between f (shared_from rs a b) (shared_past rs a b))
   all_shared f P h = all_between_from f P (shared_from rs a b) (shared_past rs a b) (λ t _ _. h t)
 
   few_shared : {X : Type 0} (f : ℕ → List X) (m : ℕ) → ((t : ℕ) → length (f t) ≤ m) → length (between f (shared_from rs a b) (shared_past rs a b)) ≤ 256 * m
   few_shared f m h = length_between f m h (shared_from rs a b) (shared_past rs a b) 256 (omega (arith, range_small rs a))
 
   module _ (v : ℕ → ℕ) where
-    pub apart_sound : not (v a == v b) ≡ true → All (Met v) (apart rs a b)
+    pub apart_sound : not (v a == v b) ≡ true → AllByRecursion (Met v) (apart rs a b)
     apart_sound d = all_shared (not_both a b) (Met v) (λ t. (met_by (v a) (v b) t d, tt))
 
-    pub apart_complete : InRange rs v → All (Met v) (apart rs a b) → not (v a == v b) ≡ true
+    pub apart_complete : InRange rs v → AllByRecursion (Met v) (apart rs a b) → not (v a == v b) ≡ true
     apart_complete within all =
         ⊎_elim
         (λ e. by_met (v a) (v b) e (between_all (not_both a b) (Met v) (shared_from rs a b) (shared_past rs a b) all (v a) (omega (arith, within.above a, within.above b)) (omega (arith, within.below a, within.below b))).0)
@@ -60,27 +60,27 @@ module _ (rs : List Range) (a b : ℕ) where
     excludes_follows : InRange rs v → not (v a == v b) ≡ true → (t : ℕ) → Follows v (excludes rs a b t)
     excludes_follows within d t p = excluded (low rs a) (high rs a) (v a) (v b) t d (within.above a) (within.below a) p.0 p.1.0
 
-    pub each_follows : InRange rs v → not (v a == v b) ≡ true → All (Follows v) (excludes_each rs a b)
+    pub each_follows : InRange rs v → not (v a == v b) ≡ true → AllByRecursion (Follows v) (excludes_each rs a b)
     each_follows within d = all_shared (excluded_at rs a b) (Follows v) (λ t. (excludes_follows within d t, tt))
 
   module _ (items : List Item) (oa : names items a ≡ true) (ob : names items b ≡ true) where
-    pub apart_own : All (All (Own items)) (apart rs a b)
-    apart_own = all_shared (not_both a b) (All (Own items)) (λ t. ((oa, (oa, (ob, (ob, tt)))), tt))
+    pub apart_own : AllByRecursion (AllByRecursion (Own items)) (apart rs a b)
+    apart_own = all_shared (not_both a b) (AllByRecursion (Own items)) (λ t. ((oa, (oa, (ob, (ob, tt)))), tt))
 
-    pub each_own : All (OwnPairing items) (excludes_each rs a b)
+    pub each_own : AllByRecursion (OwnPairing items) (excludes_each rs a b)
     each_own = all_shared (excluded_at rs a b) (OwnPairing items) (λ t. ((((oa, oa), ((oa, oa), tt)), (ob, ob)), tt))
 
-    apart_own_pairings : All (OwnPairing items) (apart_pairings rs a b)
+    apart_own_pairings : AllByRecursion (OwnPairing items) (apart_pairings rs a b)
     apart_own_pairings =
         all_shared (told_of rs a b) (OwnPairing items) (λ t. (
           (((oa, oa), ((oa, oa), tt)), (ob, ob)),
           ((((ob, ob), ((ob, ob), tt)), (oa, oa)), ((((oa, ob), ((oa, ob), tt)), (oa, oa)), ((((oa, ob), ((oa, ob), tt)), (oa, oa)), tt))),
         ))
 
-  pub apart_short : All (λ c. length c ≤ 4) (apart rs a b)
+  pub apart_short : AllByRecursion (λ c. length c ≤ 4) (apart rs a b)
   apart_short = all_shared (not_both a b) (λ c. length c ≤ 4) (λ t. (lit≤ tt, tt))
 
-  pub each_short : All (λ p. length p.premise ≤ 4) (excludes_each rs a b)
+  pub each_short : AllByRecursion (λ p. length p.premise ≤ 4) (excludes_each rs a b)
   each_short = all_shared (excluded_at rs a b) (λ p. length p.premise ≤ 4) (λ t. (lit≤ tt, tt))
 
   pub apart_few : length (apart rs a b) ≤ 256
@@ -89,11 +89,11 @@ module _ (rs : List Range) (a b : ℕ) where
   pub each_few : length (excludes_each rs a b) ≤ 256
   each_few = few_shared (excluded_at rs a b) 1 (λ t. lit≤ tt)
 
-  apart_short_premises : All (λ p. length p.premise ≤ 4) (apart_pairings rs a b)
+  apart_short_premises : AllByRecursion (λ p. length p.premise ≤ 4) (apart_pairings rs a b)
   apart_short_premises = all_shared (told_of rs a b) (λ p. length p.premise ≤ 4) (λ t. (lit≤ tt, (lit≤ tt, (lit≤ tt, (lit≤ tt, tt)))))
 
 module _ (rs : List Range) (a b : ℕ) (v : ℕ → ℕ) where
-  apart_follows : InRange rs v → not (v a == v b) ≡ true → All (Follows v) (apart_pairings rs a b)
+  apart_follows : InRange rs v → not (v a == v b) ≡ true → AllByRecursion (Follows v) (apart_pairings rs a b)
   apart_follows within d =
       all_shared rs a b (told_of rs a b) (Follows v) (λ t. (
         excludes_follows rs a b v within d t,

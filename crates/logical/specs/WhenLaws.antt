@@ -1,7 +1,7 @@
 -- The laws of a variable that says whether one variable is at most another. Assumes nothing.
 use Rattle.std.specs.Prelude.{◌≡◌, ℕ, ◌+◌, ◌≤◌, true, false, ◌||◌, leb, List, [], ◌∷◌, ◌++◌, length, ◌==◌, nat_le, nat_lt, refl}
 use Rattle.std.proofs.Common.{sym, ap, ap₂, ◌∙◌, arith, lit≤, length-append}
-use Rattle.std.specs.List.{AllByRecursion as All}
+use Rattle.std.specs.List.{AllByRecursion}
 use Rattle.std.proofs.ByRecursion.{All-append}
 use Rattle.std.proofs.lemmas.Bool.{false≢true, leb-true}
 use Rattle.std.proofs.lemmas.Bool.Decides.{nat_tests}
@@ -27,7 +27,7 @@ by_met : (x a b : ℕ) → x ≤ 1 → (nat_lt x 1 || (nat_lt a a || (nat_le a b
 by_met x a b l h k = grind (arith, nat_tests)
 
 -- what holds of all that is joined holds of both parts
-all_parts : {X : Type 0} (P : X → Type 0) (xs ys : List X) → All P (xs ++ ys) → All P xs × All P ys
+all_parts : {X : Type 0} (P : X → Type 0) (xs ys : List X) → AllByRecursion P (xs ++ ys) → AllByRecursion P xs × AllByRecursion P ys
 all_parts P [] ys h = (tt, h)
 all_parts P (x ∷ xs) ys h = let r = all_parts P xs ys h.1 in ((h.0, r.0), r.1)
 
@@ -42,13 +42,13 @@ module _ (items : List Item) (rs : List Range) where
   b = var items 2
 
   -- what holds of the clauses of each value
-  all_of : (P : List Bound → Type 0) → ((t : ℕ) → All P (upheld x a b t)) → ((t : ℕ) → All P (denied x a b t)) → All P (when.clauses items rs)
+  all_of : (P : List Bound → Type 0) → ((t : ℕ) → AllByRecursion P (upheld x a b t)) → ((t : ℕ) → AllByRecursion P (denied x a b t)) → AllByRecursion P (when.clauses items rs)
   all_of P h k =
       All-append P (all_upheld rs x a b) (all_denied rs x a b)
       (all_between_from (upheld x a b) P (low rs a) (high rs a + 1) (λ t _ _. h t))
       (all_between_from (denied x a b) P (low rs b) (high rs b + 1) (λ t _ _. k t))
 
-  when_complete : (v : ℕ → ℕ) → InRange rs v → when.fits items rs ≡ true → All (Met v) (when.clauses items rs) → when.meets items v ≡ true
+  when_complete : (v : ℕ → ℕ) → InRange rs v → when.fits items rs ≡ true → AllByRecursion (Met v) (when.clauses items rs) → when.meets items v ≡ true
   when_complete v within fit all =
       let two = all_parts (Met v) (all_upheld rs x a b) (all_denied rs x a b) all in
       let small : v x ≤ 1 = omega (arith, within.below x, leb-true (high rs x) 1 fit) in
@@ -62,12 +62,12 @@ module _ (items : List Item) (rs : List Range) where
       let q : length (all_denied rs x a b) ≤ 256 = length_between (denied x a b) 1 (λ t. lit≤ tt) (low rs b) (high rs b + 1) 256 (omega (arith, range_small rs b)) in
       omega (arith, length-append (all_upheld rs x a b) (all_denied rs x a b))
 
-  when_own : length items ≡ 3 → All (All (Own items)) (when.clauses items rs)
+  when_own : length items ≡ 3 → AllByRecursion (AllByRecursion (Own items)) (when.clauses items rs)
   when_own n =
       let ox = own_var items 0 (omega arith) in
       let oa = own_var items 1 (omega arith) in
       let ob = own_var items 2 (omega arith) in
-      all_of (All (Own items)) (λ t. ((ox, (oa, (ob, tt))), tt)) (λ t. ((ox, (ob, (oa, tt))), tt))
+      all_of (AllByRecursion (Own items)) (λ t. ((ox, (oa, (ob, tt))), tt)) (λ t. ((ox, (ob, (oa, tt))), tt))
 
   module _ (rs' : List Range) (n : length items ≡ 3) (same : Agree items rs rs') where
     when_same : when.clauses items rs' ≡ when.clauses items rs

@@ -1,6 +1,6 @@
 -- The rows of lawful kinds: lawful, of known variables, and the same as variables are added. Assumes nothing.
 use Rattle.std.proofs.Common.{◌≡◌, ℕ, ◌<◌, true, false, List, ◌++◌, length, sym}
-use Rattle.std.specs.List.{ContainsAt as Has, AllByRecursion as All}
+use Rattle.std.specs.List.{ContainsAt, AllByRecursion}
 use Rattle.std.proofs.ByRecursion.{All-weaker}
 use Rattle.order.specs.declared.bound.Bound.{Bound}
 use Rattle.order.specs.declared.range.Range.{Range}
@@ -34,7 +34,7 @@ module _ (items : List Item) (n : ℕ) (below : (x : ℕ) → names items x ≡ 
 
   pub row_known : (m : Meaning) → Lawful m → (rs : List Range) → Apt m items rs → KnownRow n (row_of m items rs)
   row_known m law rs apt = record {
-    clauses = All-weaker (All (Own items)) (All (Known n)) (All-weaker (Own items) (Known n) own_names) (m.clauses items rs) (law.own_clauses items rs apt);
+    clauses = All-weaker (AllByRecursion (Own items)) (AllByRecursion (Known n)) (All-weaker (Own items) (Known n) own_names) (m.clauses items rs) (law.own_clauses items rs apt);
     pairings = All-weaker (OwnPairing items) (KnownPairing n) own_pairing_names (m.pairings items rs) (law.own_pairings items rs apt);
   }
 
@@ -47,7 +47,7 @@ module _ (m : Meaning) (law : Lawful m) (items : List Item) (rs rs' : List Range
   pub apt_stays : Apt m items rs'
   apt_stays = (apt.0, law.same_fits items rs rs' apt agree)
 
-  pub row_stays : (ws : List Row) → Has ws (row_of m items rs') → Stays ws (row_of m items rs)
+  pub row_stays : (ws : List Row) → ContainsAt ws (row_of m items rs') → Stays ws (row_of m items rs)
   row_stays ws h = record {
     row = row_of m items rs';
     among = h;

@@ -1,6 +1,6 @@
 -- The truth under a solution is a closed set of ties. Assumes nothing.
 use Rattle.std.proofs.Common.{◌≡◌, ℕ, Bool, true, false, cond, not, ◌&&◌, ◌||◌, List, [], ◌∷◌, sym, refl, ap, ◌∙◌, arith}
-use Rattle.std.specs.List.{AllByRecursion as All}
+use Rattle.std.specs.List.{AllByRecursion}
 use Rattle.std.proofs.ByRecursion.{All-append, All-weaker}
 use Rattle.order.specs.declared.literal.Literal.{Literal}
 use Rattle.order.specs.declared.literal.Literal.TheVariants.{True}
@@ -82,11 +82,11 @@ module _ (j : Job) (laws : LawfulRows j) (v : ℕ → ℕ) (sol : Solves j v) wh
   shown : Shows j.ranges (bits j.ranges v) v
   shown = bits_show j.ranges v sol.in_range
 
-  clauses_true : All (TrueBy j.ranges β) (clauses j)
+  clauses_true : AllByRecursion (TrueBy j.ranges β) (clauses j)
   clauses_true = All-append (TrueBy j.ranges β) (orders j.ranges) (joined (λ w. w.clauses) j.rows)
       (shows_orders j.ranges β v shown)
       (all_joined (TrueBy j.ranges β) (λ w. w.clauses) j.rows
-      (all_both (LawfulRow j.ranges) (λ w. w.meets v ≡ true) (λ w. All (TrueBy j.ranges β) w.clauses)
+      (all_both (LawfulRow j.ranges) (λ w. w.meets v ≡ true) (λ w. AllByRecursion (TrueBy j.ranges β) w.clauses)
       (λ w law m. by_met j.ranges β v shown w.clauses ((law.by_clauses v sol.in_range).0 m)) j.rows laws sol.meets))
 
   stands_kept : (t : Tie) → Stands j.ranges (alike β) t → Kept v t
@@ -105,7 +105,7 @@ module _ (j : Job) (laws : LawfulRows j) (v : ℕ → ℕ) (sol : Solves j v) wh
     apart = alike_apart β;
     clauses = All-weaker (TrueBy j.ranges β) (λ c. Heeds (alike β) (literals j.ranges c)) (λ c. true_heeds β (literals j.ranges c)) (clauses j) clauses_true;
     pairings = all_joined (Pairs j.ranges (alike β)) (λ w. w.pairings) j.rows
-        (all_both (LawfulRow j.ranges) (λ w. w.meets v ≡ true) (λ w. All (Pairs j.ranges (alike β)) w.pairings)
+        (all_both (LawfulRow j.ranges) (λ w. w.meets v ≡ true) (λ w. AllByRecursion (Pairs j.ranges (alike β)) w.pairings)
         (λ w law m. All-weaker (Follows v) (Pairs j.ranges (alike β)) pairs_follow w.pairings (law.by_pairings v sol.in_range m)) j.rows laws sol.meets);
   }
 

@@ -1,6 +1,6 @@
 -- Bits in order stand for a value, and one only. Assumes nothing.
 use Rattle.std.proofs.Common.{◌≡◌, ℕ, suc, ◌+◌, ◌-◌, ◌<◌, ◌≤◌, Bool, true, false, not, ◌||◌, ltb, leb, List, [], ◌∷◌, length, get_or, sym, refl, ap, ◌∙◌, inl, inr, arith}
-use Rattle.std.specs.List.{AllByRecursion as All}
+use Rattle.std.specs.List.{AllByRecursion}
 use Rattle.std.proofs.lemmas.List.{get_or_past}
 use Rattle.std.proofs.lemmas.Bool.{cases_lt, le-leb, lt-leb, lt-ltb, cond-true, cond-false}
 use Rattle.std.proofs.lemmas.Bool.Decides.{nat_tests}
@@ -84,7 +84,7 @@ module _ (rs : List Range) (β : ℕ → Bool) (x : ℕ) where
       implied : (n p q : Bool) → n ≡ not p → (n || (q || false)) ≡ true → p ≡ true → q ≡ true
       implied n p q e h g = grind arith
 
-  order_falls : All (TrueBy rs β) (order rs x) → Falling passes (width rs x)
+  order_falls : AllByRecursion (TrueBy rs β) (order rs x) → Falling passes (width rs x)
   order_falls h k l p =
       let t : ℕ = low rs x + suc k in
       let e : t + 1 ≡ low rs x + suc (suc k) = omega arith in
@@ -93,14 +93,14 @@ module _ (rs : List Range) (β : ℕ → Bool) (x : ℕ) where
       sym (truth_passes k (omega arith)) ∙ step_says t c up
 
   -- bits that satisfy the order clauses say the value that they count
-  pub order_says : All (TrueBy rs β) (order rs x) → Says rs β x (value rs β x)
+  pub order_says : AllByRecursion (TrueBy rs β) (order rs x) → Says rs β x (value rs β x)
   order_says h =
       let c : ℕ = count_below passes (width rs x) in
       let e : c ≡ value rs β x - low rs x = omega arith in
       says_from (value rs β x) value_above value_below (λ k l. count_falling passes (width rs x) (order_falls h) k l ∙ ap (ltb k) e)
 
   -- and bits that say a value satisfy the order clauses
-  pub says_order : (n : ℕ) → Says rs β x n → All (TrueBy rs β) (order rs x)
+  pub says_order : (n : ℕ) → Says rs β x n → AllByRecursion (TrueBy rs β) (order rs x)
   says_order n h = all_between_from (step x) (TrueBy rs β) (low rs x + 1) (high rs x) (λ t l u. (one t, tt))
     where
       one : (t : ℕ) → TrueBy rs β (misses x (t + 1) ∷ reaches x t ∷ [])

@@ -1,6 +1,6 @@
 -- What satisfies the output is what gives values that meet each row. Assumes nothing.
 use Rattle.std.proofs.Common.{◌≡◌, ℕ, ◌+◌, Bool, true, List, ◌++◌, length, Decides, sym, refl, ap, ◌∙◌, inl, inr, arith}
-use Rattle.std.specs.List.{AllByRecursion as All}
+use Rattle.std.specs.List.{AllByRecursion}
 use Rattle.std.proofs.ByRecursion.{All-append, All-weaker, Decides-by_and}
 use Rattle.std.proofs.lemmas.Bool.{cases_Bool, cases_lt}
 use Rattle.order.specs.declared.bound.Bound.{Bound}
@@ -30,7 +30,7 @@ use Rattle.theory.proofs.Bits.{truth_literal, some_literals}
 abbrev IsTrue : (ℕ → Bool) → List Literal → Type 0
 IsTrue α c = some_true α c ≡ true
 
-each_true : (α : ℕ → Bool) (cs : List (List Literal)) → Decides (all_true α cs) (All (IsTrue α) cs)
+each_true : (α : ℕ → Bool) (cs : List (List Literal)) → Decides (all_true α cs) (AllByRecursion (IsTrue α) cs)
 each_true α cs = Decides-by_and (some_true α) (IsTrue α) (all_true α) (λ c. (λ h. h, λ h. h)) refl (λ _ _. refl) cs
 
 -- the values that bits count are in range
@@ -38,36 +38,36 @@ pub value_in_range : (rs : List Range) (β : ℕ → Bool) → InRange rs (value
 value_in_range rs β = record { above = value_above rs β; below = value_below rs β }
 
 -- the order clauses of all variables say that the bits show values
-pub orders_show : (rs : List Range) (β : ℕ → Bool) → All (TrueBy rs β) (orders rs) → Shows rs β (value rs β)
+pub orders_show : (rs : List Range) (β : ℕ → Bool) → AllByRecursion (TrueBy rs β) (orders rs) → Shows rs β (value rs β)
 orders_show rs β h x = order_says rs β x (elim (cases_lt x (length rs)) [
   | inl l ↦ between_all (order rs) (TrueBy rs β) 0 (length rs) h x (omega arith) l
   | inr g ↦ let e = absent rs x g in all_between_from (step x) (TrueBy rs β) (low rs x + 1) (high rs x) (λ t l u. let n : ⊥ = omega arith in absurd n)
 ])
 
-pub shows_orders : (rs : List Range) (β : ℕ → Bool) (v : ℕ → ℕ) → Shows rs β v → All (TrueBy rs β) (orders rs)
+pub shows_orders : (rs : List Range) (β : ℕ → Bool) (v : ℕ → ℕ) → Shows rs β v → AllByRecursion (TrueBy rs β) (orders rs)
 shows_orders rs β v s = all_between_from (order rs) (TrueBy rs β) 0 (length rs) (λ x _ _. says_order rs β x (v x) (s x))
 
 -- clauses that the bits satisfy, and that the values do
 module _ (rs : List Range) (β : ℕ → Bool) (v : ℕ → ℕ) (s : Shows rs β v) where
-  pub met_by : (cs : List (List Bound)) → All (TrueBy rs β) cs → All (Met v) cs
+  pub met_by : (cs : List (List Bound)) → AllByRecursion (TrueBy rs β) cs → AllByRecursion (Met v) cs
   met_by = All-weaker (TrueBy rs β) (Met v) (λ c h. sym (some_literals rs β v s c) ∙ h)
 
-  pub by_met : (cs : List (List Bound)) → All (Met v) cs → All (TrueBy rs β) cs
+  pub by_met : (cs : List (List Bound)) → AllByRecursion (Met v) cs → AllByRecursion (TrueBy rs β) cs
   by_met = All-weaker (Met v) (TrueBy rs β) (λ c h. some_literals rs β v s c ∙ h)
 
 -- what is written of clauses is true as they are, through the roots
 module _ (rs : List Range) (f : ℕ → Literal) (α : ℕ → Bool) where
-  written_true : (c : List Bound) → TrueBy rs (through f α) c → All (IsTrue α) (reduced rs f c)
+  written_true : (c : List Bound) → TrueBy rs (through f α) c → AllByRecursion (IsTrue α) (reduced rs f c)
   written_true c h = (each_true α (reduced rs f c)).0 (all_written_through f α (literals rs c) ∙ h)
 
-  true_written : (c : List Bound) → All (IsTrue α) (reduced rs f c) → TrueBy rs (through f α) c
+  true_written : (c : List Bound) → AllByRecursion (IsTrue α) (reduced rs f c) → TrueBy rs (through f α) c
   true_written c h = sym (all_written_through f α (literals rs c)) ∙ (each_true α (reduced rs f c)).1 h
 
-  written_all : (cs : List (List Bound)) → All (TrueBy rs (through f α)) cs → All (IsTrue α) (joined (reduced rs f) cs)
-  written_all cs h = all_joined (IsTrue α) (reduced rs f) cs (All-weaker (TrueBy rs (through f α)) (λ c. All (IsTrue α) (reduced rs f c)) written_true cs h)
+  written_all : (cs : List (List Bound)) → AllByRecursion (TrueBy rs (through f α)) cs → AllByRecursion (IsTrue α) (joined (reduced rs f) cs)
+  written_all cs h = all_joined (IsTrue α) (reduced rs f) cs (All-weaker (TrueBy rs (through f α)) (λ c. AllByRecursion (IsTrue α) (reduced rs f c)) written_true cs h)
 
-  all_written : (cs : List (List Bound)) → All (IsTrue α) (joined (reduced rs f) cs) → All (TrueBy rs (through f α)) cs
-  all_written cs h = All-weaker (λ c. All (IsTrue α) (reduced rs f c)) (TrueBy rs (through f α)) true_written cs (joined_all (IsTrue α) (reduced rs f) cs h)
+  all_written : (cs : List (List Bound)) → AllByRecursion (IsTrue α) (joined (reduced rs f) cs) → AllByRecursion (TrueBy rs (through f α)) cs
+  all_written cs h = All-weaker (λ c. AllByRecursion (IsTrue α) (reduced rs f c)) (TrueBy rs (through f α)) true_written cs (joined_all (IsTrue α) (reduced rs f) cs h)
 
   module _ (v : ℕ → ℕ) (s : Shows rs (through f α) v) where
     -- values that are shown through the roots keep the ties
@@ -76,15 +76,15 @@ module _ (rs : List Range) (f : ℕ → Literal) (α : ℕ → Bool) where
         let roots : root_by f (literal rs p) ≡ root_by f (literal rs q) = equal_from_same _ _ h in
         sym (truth_literal rs (through f α) v s p) ∙ truth_through f α (literal rs p) ∙ ap (truth α) roots ∙ sym (truth_through f α (literal rs q)) ∙ truth_literal rs (through f α) v s q
 
-    row_meets : InRange rs v → (w : Row) → LawfulRow rs w → All (IsTrue α) (reduced_row rs f w) → w.meets v ≡ true
+    row_meets : InRange rs v → (w : Row) → LawfulRow rs w → AllByRecursion (IsTrue α) (reduced_row rs f w) → w.meets v ≡ true
     row_meets i w law h = elim (cases_Bool (w.spent (tied_bounds rs f))) [
       | inl e ↦ law.by_ties v (tied_bounds rs f) i shown_respects e
       | inr e ↦
-          let g : All (IsTrue α) (joined (reduced rs f) w.clauses) = rw e at h in
+          let g : AllByRecursion (IsTrue α) (joined (reduced rs f) w.clauses) = rw e at h in
           (law.by_clauses v i).1 (met_by rs (through f α) v s w.clauses (all_written w.clauses g))
     ]
 
-    meets_row : InRange rs v → (w : Row) → LawfulRow rs w → w.meets v ≡ true → All (IsTrue α) (reduced_row rs f w)
+    meets_row : InRange rs v → (w : Row) → LawfulRow rs w → w.meets v ≡ true → AllByRecursion (IsTrue α) (reduced_row rs f w)
     meets_row i w law h = elim (cases_Bool (w.spent (tied_bounds rs f))) [
       | inl e ↦ rw e tt
       | inr e ↦ rw e (written_all w.clauses (by_met rs (through f α) v s w.clauses ((law.by_clauses v i).0 h)))
@@ -99,14 +99,14 @@ module _ (j : Job) (f : ℕ → Literal) (laws : LawfulRows j) (α : ℕ → Boo
       let v : ℕ → ℕ = values j f α in
       let front : List (List Literal) = joined (reduced rs f) (orders rs) in
       let back : List (List Literal) = joined (reduced_row rs f) j.rows in
-      let all : All (IsTrue α) (front ++ back) = (each_true α (output j f)).0 h in
+      let all : AllByRecursion (IsTrue α) (front ++ back) = (each_true α (output j f)).0 h in
       let s : Shows rs (through f α) v = orders_show rs (through f α) (all_written rs f α (orders rs) (all_front (IsTrue α) front back all)) in
       let i : InRange rs v = value_in_range rs (through f α) in
       record {
         in_order = s;
         solves = record {
           in_range = i;
-          meets = all_both (LawfulRow rs) (λ w. All (IsTrue α) (reduced_row rs f w)) (λ w. w.meets v ≡ true) (λ w. row_meets rs f α v s i w) j.rows laws (joined_all (IsTrue α) (reduced_row rs f) j.rows (all_back (IsTrue α) front back all));
+          meets = all_both (LawfulRow rs) (λ w. AllByRecursion (IsTrue α) (reduced_row rs f w)) (λ w. w.meets v ≡ true) (λ w. row_meets rs f α v s i w) j.rows laws (joined_all (IsTrue α) (reduced_row rs f) j.rows (all_back (IsTrue α) front back all));
         };
       }
 
@@ -120,7 +120,7 @@ module _ (j : Job) (f : ℕ → Literal) (laws : LawfulRows j) (α : ℕ → Boo
       (each_true α (output j f)).1 (All-append (IsTrue α) front back
       (written_all rs f α (orders rs) (shows_orders rs (through f α) v s))
       (all_joined (IsTrue α) (reduced_row rs f) j.rows
-      (all_both (LawfulRow rs) (λ w. w.meets v ≡ true) (λ w. All (IsTrue α) (reduced_row rs f w)) (λ w. meets_row rs f α v s sol.in_range w) j.rows laws sol.meets)))
+      (all_both (LawfulRow rs) (λ w. w.meets v ≡ true) (λ w. AllByRecursion (IsTrue α) (reduced_row rs f w)) (λ w. meets_row rs f α v s sol.in_range w) j.rows laws sol.meets)))
 
   pub reads : Decides (all_true α (output j f)) (Read j f α)
   reads = (reads_from, λ d. shown_satisfies (values j f α) d.in_order d.solves)

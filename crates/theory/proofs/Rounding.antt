@@ -1,6 +1,6 @@
 -- What a look leaves as long as roots stay, and why it lasts. Assumes nothing.
 use Rattle.std.proofs.Common.{◌≡◌, ℕ, ◌≤◌, true, false, not, List, [], ◌∷◌, map, sym, refl, ap, ◌∙◌, subst, inl, inr, arith}
-use Rattle.std.specs.List.{AllByRecursion as All}
+use Rattle.std.specs.List.{AllByRecursion}
 use Rattle.std.proofs.ByRecursion.{All-weaker}
 use Rattle.std.proofs.lemmas.Bool.{and_parts, or_cases, or_left}
 use Rattle.std.proofs.lemmas.Bool.Decides.{nat_tests}
@@ -60,14 +60,14 @@ module _ (rs : List Range) where
       ((a.0, b.0), (a.1, b.1))
 
   module _ (f g : ℕ → Literal) where
-    still_rooted : (c : List Bound) → All (Still rs f g) c → rooted rs f c ≡ rooted rs g c
+    still_rooted : (c : List Bound) → AllByRecursion (Still rs f g) c → rooted rs f c ≡ rooted rs g c
     still_rooted [] h = refl
     still_rooted (b ∷ c) h =
         let here = h.0 in
         let rest = still_rooted c h.1 in
         cc
 
-    still_long : (c : List Bound) → All (Still rs f g) c → Long (reduced rs f c) → Long (reduced rs g c)
+    still_long : (c : List Bound) → AllByRecursion (Still rs f g) c → Long (reduced rs f c) → Long (reduced rs g c)
     still_long c h = subst (λ d. Long (written d)) (still_rooted c h)
 
     still_stands : (t : Tie) → StillTie rs f g t → Stands rs (tied f) t → Stands rs (tied g) t
@@ -76,7 +76,7 @@ module _ (rs : List Range) where
     stood : (t : Tie) → StillTie rs f g t → Stands rs (tied g) t → Stands rs (tied f) t
     stood t s h = roots_tie f _ _ (s.0 ∙ tied_roots g _ _ h ∙ sym s.1)
 
-    all_stood : (ts : List Tie) → All (StillTie rs f g) ts → All (Stands rs (tied g)) ts → All (Stands rs (tied f)) ts
+    all_stood : (ts : List Tie) → AllByRecursion (StillTie rs f g) ts → AllByRecursion (Stands rs (tied g)) ts → AllByRecursion (Stands rs (tied f)) ts
     all_stood [] s h = tt
     all_stood (t ∷ ts) s h = (stood t s.0 h.0, all_stood ts s.1 h.1)
 
@@ -131,11 +131,11 @@ module _ (rs : List Range) where
     hears_end = λ f p heard. heard (ties_themselves f p.premise, (refl, refl));
   }
     where
-      itself : (f : ℕ → Literal) (c : List Bound) → All (Still rs f f) c
+      itself : (f : ℕ → Literal) (c : List Bound) → AllByRecursion (Still rs f f) c
       itself f [] = tt
       itself f (b ∷ c) = (refl, itself f c)
 
-      ties_themselves : (f : ℕ → Literal) (ts : List Tie) → All (StillTie rs f f) ts
+      ties_themselves : (f : ℕ → Literal) (ts : List Tie) → AllByRecursion (StillTie rs f f) ts
       ties_themselves f [] = tt
       ties_themselves f (t ∷ ts) = ((refl, refl), ties_themselves f ts)
 

@@ -1,6 +1,6 @@
 -- A clause asks nothing more where what is written of it has two literals at least. Assumes nothing.
 use Rattle.std.proofs.Common.{◌≡◌, ℕ, suc, ◌<◌, ◌≤◌, Bool, true, false, not, ◌&&◌, ◌||◌, ◌⊎◌, List, [], ◌∷◌, map, length, fold, sym, refl, ap, ◌∙◌, inl, inr, arith}
-use Rattle.std.specs.List.{ContainsAt as Has, AllByRecursion as All}
+use Rattle.std.specs.List.{ContainsAt, AllByRecursion}
 use Rattle.std.proofs.ByRecursion.{All-weaker}
 use Rattle.std.proofs.lemmas.Bool.{cases_Bool, cases_lt, cond-true, and_parts, and_from, or_cases, or_parts, or_left, or_right, both_ways}
 use Rattle.order.specs.declared.bound.Bound.{Bound}
@@ -210,7 +210,7 @@ tied_apart f l = ap (same (root_by f l)) (root_by_opposite f l) ∙ never (root_
     never x = grind (arith, same_tells)
 
 -- where each clause written, of spent rows too, has two literals at least and the pairings are followed, the ties are closed
-pub tied_closed : (j : Job) (f : ℕ → Literal) → All (λ c. Long (reduced j.ranges f c)) (clauses j) → All (Pairs j.ranges (tied f)) (pairings j) → Closed j (tied f)
+pub tied_closed : (j : Job) (f : ℕ → Literal) → AllByRecursion (λ c. Long (reduced j.ranges f c)) (clauses j) → AllByRecursion (Pairs j.ranges (tied f)) (pairings j) → Closed j (tied f)
 tied_closed j f long pairs = record {
   ties = tied_is_ties f;
   apart = tied_apart f;
@@ -219,7 +219,7 @@ tied_closed j f long pairs = record {
 }
 
 -- the rules as the code meets them, by the roots: a clause that leaves nothing, and one that leaves one literal
-module _ (j : Job) (f : ℕ → Literal) (c : List Bound) (in' : Has (clauses j) c) where
+module _ (j : Job) (f : ℕ → Literal) (c : List Bound) (in' : ContainsAt (clauses j) c) where
   pub empty_hopeless : struck (rooted j.ranges f c) ≡ [] → Hopeless j (tied f)
   empty_hopeless e =
       let d : List Literal = rooted j.ranges f c in

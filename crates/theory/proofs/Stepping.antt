@@ -1,6 +1,6 @@
 -- A step that the rules force keeps the ties sound. Assumes nothing.
 use Rattle.std.proofs.Common.{◌≡◌, ℕ, true, ◌||◌, List, [], ◌∷◌, sym, refl, ap, ◌∙◌, inl, inr}
-use Rattle.std.specs.List.{ContainsAt as Has, AllByRecursion as All}
+use Rattle.std.specs.List.{ContainsAt, AllByRecursion}
 use Rattle.std.proofs.ByRecursion.{all-has, All-weaker}
 use Rattle.std.proofs.lemmas.Bool.{and_parts, and_from, or_cases, or_left, or_right, both_ways}
 use Rattle.order.specs.declared.bound.Bound.{Bound}
@@ -51,17 +51,17 @@ module _ (j : Job) (R : Relation) where
       and_from (S l False) (all_false S c) (w l False p.0) (false_more S w c p.1)
 
   -- a clause forces its last literal
-  pub clause_forces : (c : List Bound) → Has (clauses j) c → (u : Literal) → has (literals j.ranges c) u ≡ true → only R u (literals j.ranges c) ≡ true → Forced j R u True
+  pub clause_forces : (c : List Bound) → ContainsAt (clauses j) c → (u : Literal) → has (literals j.ranges c) u ≡ true → only R u (literals j.ranges c) ≡ true → Forced j R u True
   clause_forces c in' u h o S closed w =
       (all-has (λ d. Heeds S (literals j.ranges d)) (clauses j) c closed.clauses in').last_true u h (only_more S w u (literals j.ranges c) o)
 
   -- a pairing forces its tie
-  pub pairing_forces : (p : Pairing) → Has (pairings j) p → All (Stands j.ranges R) p.premise → Forced j R (literal j.ranges p.gives.left) (literal j.ranges p.gives.right)
+  pub pairing_forces : (p : Pairing) → ContainsAt (pairings j) p → AllByRecursion (Stands j.ranges R) p.premise → Forced j R (literal j.ranges p.gives.left) (literal j.ranges p.gives.right)
   pairing_forces p in' h S closed w =
       all-has (Pairs j.ranges S) (pairings j) p closed.pairings in' (All-weaker (Stands j.ranges R) (Stands j.ranges S) (λ t. w (literal j.ranges t.left) (literal j.ranges t.right)) p.premise h)
 
   -- a clause whose literals are all false, and a literal that is forced to be its opposite, are hopeless
-  pub clause_hopeless : (c : List Bound) → Has (clauses j) c → all_false R (literals j.ranges c) ≡ true → Hopeless j R
+  pub clause_hopeless : (c : List Bound) → ContainsAt (clauses j) c → all_false R (literals j.ranges c) ≡ true → Hopeless j R
   clause_hopeless c in' h S closed w =
       both_ways _ (all-has (λ d. Heeds S (literals j.ranges d)) (clauses j) c closed.clauses in').some_left (false_more S w (literals j.ranges c) h)
 

@@ -1,30 +1,30 @@
 -- What holds of all items of lists that are joined, and one list more. Assumes nothing.
 use Rattle.std.proofs.Common.{◌≡◌, ℕ, ◌+◌, ◌<◌, List, [], ◌∷◌, ◌++◌, length, get_or, take, sym, refl, ap, ◌∙◌}
-use Rattle.std.specs.List.{AllByRecursion as All}
+use Rattle.std.specs.List.{AllByRecursion}
 use Rattle.std.proofs.lemmas.List.{append_assoc, append-nil, take_more}
 use Rattle.std.proofs.ByRecursion.{All-append}
 use Rattle.order.specs.Between.{joined}
 
 module _ {X : Type 0} (P : X → Type 0) where
-  pub all_front : (xs ys : List X) → All P (xs ++ ys) → All P xs
+  pub all_front : (xs ys : List X) → AllByRecursion P (xs ++ ys) → AllByRecursion P xs
   all_front [] ys h = tt
   all_front (x ∷ xs) ys h = (h.0, all_front xs ys h.1)
 
-  pub all_back : (xs ys : List X) → All P (xs ++ ys) → All P ys
+  pub all_back : (xs ys : List X) → AllByRecursion P (xs ++ ys) → AllByRecursion P ys
   all_back [] ys h = h
   all_back (x ∷ xs) ys h = all_back xs ys h.1
 
   module _ {Y : Type 0} (f : Y → List X) where
-    pub all_joined : (ys : List Y) → All (λ y. All P (f y)) ys → All P (joined f ys)
+    pub all_joined : (ys : List Y) → AllByRecursion (λ y. AllByRecursion P (f y)) ys → AllByRecursion P (joined f ys)
     all_joined [] h = tt
     all_joined (y ∷ ys) h = All-append P (f y) (joined f ys) h.0 (all_joined ys h.1)
 
-    pub joined_all : (ys : List Y) → All P (joined f ys) → All (λ y. All P (f y)) ys
+    pub joined_all : (ys : List Y) → AllByRecursion P (joined f ys) → AllByRecursion (λ y. AllByRecursion P (f y)) ys
     joined_all [] h = tt
     joined_all (y ∷ ys) h = (all_front (f y) (joined f ys) h, joined_all ys (all_back (f y) (joined f ys) h))
 
 -- what holds of each item by two facts
-pub all_both : {X : Type 0} (P Q R : X → Type 0) → ((x : X) → P x → Q x → R x) → (xs : List X) → All P xs → All Q xs → All R xs
+pub all_both : {X : Type 0} (P Q R : X → Type 0) → ((x : X) → P x → Q x → R x) → (xs : List X) → AllByRecursion P xs → AllByRecursion Q xs → AllByRecursion R xs
 all_both P Q R g [] p q = tt
 all_both P Q R g (x ∷ xs) p q = (g x p.0 q.0, all_both P Q R g xs p.1 q.1)
 

@@ -1,7 +1,7 @@
 -- Hidden variables have the sums for values, and no others. Assumes nothing.
 use Rattle.std.proofs.Common.{◌≡◌, ℕ, zero, suc, ◌+◌, ◌<◌, ◌≤◌, true, false, ◌⊎◌, List, [], ◌∷◌, ◌++◌, length, get_or, take, sum_by, sym, refl, ap, ◌∙◌, subst, inl, inr, add-zero, arith}
 use mathlib.Core.Path.{fun_ext}
-use Rattle.std.specs.List.{ContainsAt as Has, AllByRecursion as All}
+use Rattle.std.specs.List.{ContainsAt, AllByRecursion}
 use Rattle.std.proofs.lemmas.List.Sums.{sum_by-cons, sum_by-append, sum_by_more}
 use Rattle.std.proofs.lemmas.List.{take_all}
 use Rattle.std.proofs.ByRecursion.{all-has, All-weaker, All-get_or}
@@ -89,7 +89,7 @@ module _ (s : Sums) where
         (λ x h. same x h ∙ sym (full_plain v x h))
         (λ x h l r. omega (arith, full_sum v x h, solved_sums u sol x h))
 
-    met : (v : ℕ → ℕ) → Layout s others j v → (w : Row) → Has others w ⊎ ((x : ℕ) × (s.hidden x ≡ true) × (plus x ≡ w)) → w.meets (full s v) ≡ true
+    met : (v : ℕ → ℕ) → Layout s others j v → (w : Row) → ContainsAt others w ⊎ ((x : ℕ) × (s.hidden x ≡ true) × (plus x ≡ w)) → w.meets (full s v) ≡ true
     met v lay w (inl h) = all-has (λ w. w.meets (full s v) ≡ true) others w lay.meets h
     met v lay w (inr h) = subst (λ w. w.meets (full s v) ≡ true) h.2 (adds.sums h.0 (full s v) h.1 ∙ eq-eqb _ _ (sym (full_sum v h.0 h.1)))
 
@@ -98,7 +98,7 @@ module _ (s : Sums) where
     extend_once = record {
       extends = λ v lay. record {
         in_range = full_in_range v lay;
-        meets = All-weaker (λ w. Has others w ⊎ ((x : ℕ) × (s.hidden x ≡ true) × (plus x ≡ w))) (λ w. w.meets (full s v) ≡ true) (met v lay) j.rows adds.no_more;
+        meets = All-weaker (λ w. ContainsAt others w ⊎ ((x : ℕ) × (s.hidden x ≡ true) × (plus x ≡ w))) (λ w. w.meets (full s v) ≡ true) (met v lay) j.rows adds.no_more;
       };
       keeps = full_plain;
       layout = λ v sol. record {
@@ -106,7 +106,7 @@ module _ (s : Sums) where
         below = λ x _. sol.in_range.below x;
         meets =
             let e : v ≡ full s v = fun_ext (sums_only v v sol (λ x _. refl)) in
-            subst (λ u. All (λ w. w.meets u ≡ true) others) e (All-weaker (Has j.rows) (λ w. w.meets v ≡ true) (λ w. all-has (λ w. w.meets v ≡ true) j.rows w sol.meets) others adds.has_others);
+            subst (λ u. AllByRecursion (λ w. w.meets u ≡ true) others) e (All-weaker (ContainsAt j.rows) (λ w. w.meets v ≡ true) (λ w. all-has (λ w. w.meets v ≡ true) j.rows w sol.meets) others adds.has_others);
       };
       only = sums_only;
     }

@@ -1,6 +1,6 @@
 -- Sets of ties that a job's rules close. Assumes nothing.
 use Rattle.std.specs.Prelude.{◌≡◌, ℕ, Bool, true, false, cond, not, ◌&&◌, ◌||◌, List, [], ◌∷◌}
-use Rattle.std.specs.List.{AllByRecursion as All}
+use Rattle.std.specs.List.{AllByRecursion}
 use Rattle.order.specs.declared.literal.Literal.{Literal}
 use Rattle.order.specs.declared.literal.Literal.TheVariants.{False, True}
 use Rattle.order.specs.declared.range.Range.{Range}
@@ -33,14 +33,14 @@ Stands rs S t = S (literal rs t.left) (literal rs t.right) ≡ true
 
 -- what a pairing asks of a set of ties: where its premise stands, so does its tie
 abbrev pub Pairs : List Range → Relation → Pairing → Type 0
-Pairs rs S p = All (Stands rs S) p.premise → Stands rs S p.gives
+Pairs rs S p = AllByRecursion (Stands rs S) p.premise → Stands rs S p.gives
 
 -- a set of ties that the job's rules add nothing to, with no contradiction
 pub record Closed (j : Job) (S : Relation) : Type 0 where
   pub ties : IsTies S
   pub apart : (l : Literal) → S l (opposite l) ≡ false
-  pub clauses : All (λ c. Heeds S (literals j.ranges c)) (clauses j)
-  pub pairings : All (Pairs j.ranges S) (pairings j)
+  pub clauses : AllByRecursion (λ c. Heeds S (literals j.ranges c)) (clauses j)
+  pub pairings : AllByRecursion (Pairs j.ranges S) (pairings j)
 
 -- whether two literals are both true or both false
 abbrev pub alike : (ℕ → Bool) → Relation

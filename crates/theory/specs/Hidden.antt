@@ -1,6 +1,6 @@
 -- Hidden variables: each is the sum of two that come before it. Assumes nothing.
 use Rattle.std.specs.Prelude.{◌≡◌, ℕ, zero, suc, ◌+◌, ◌<◌, ◌≤◌, Bool, true, false, cond, ◌⊎◌, List, [], ◌∷◌, ◌++◌, length, sum_by, ◌==◌, slice_index}
-use Rattle.std.specs.List.{ContainsAt as Has, AllByRecursion as All}
+use Rattle.std.specs.List.{ContainsAt, AllByRecursion}
 use Rattle.order.specs.Ranges.{low, high}
 use Rattle.theory.specs.Rows.{Row}
 use Rattle.theory.specs.Jobs.{Job, Solves}
@@ -32,9 +32,9 @@ SameLayout s u v = (x : ℕ) → s.hidden x ≡ false → u x ≡ v x
 
 -- the job's rows are one for each hidden variable, with the sum of the ranges, and the others, in any order
 pub record SumsUp (s : Sums) (others : List Row) (plus : ℕ → Row) (j : Job) : Type 0 where
-  pub has_others : All (Has j.rows) others
-  pub has_sums : (x : ℕ) → s.hidden x ≡ true → Has j.rows (plus x)
-  pub no_more : All (λ w. Has others w ⊎ ((x : ℕ) × (s.hidden x ≡ true) × (plus x ≡ w))) j.rows
+  pub has_others : AllByRecursion (ContainsAt j.rows) others
+  pub has_sums : (x : ℕ) → s.hidden x ≡ true → ContainsAt j.rows (plus x)
+  pub no_more : AllByRecursion (λ w. ContainsAt others w ⊎ ((x : ℕ) × (s.hidden x ≡ true) × (plus x ≡ w))) j.rows
   pub sums : (x : ℕ) (v : ℕ → ℕ) → s.hidden x ≡ true → (plus x).meets v ≡ (v (s.left x) + v (s.right x) == v x)
   pub lows : (x : ℕ) → s.hidden x ≡ true → low j.ranges x ≡ low j.ranges (s.left x) + low j.ranges (s.right x)
   pub highs : (x : ℕ) → s.hidden x ≡ true → high j.ranges x ≡ high j.ranges (s.left x) + high j.ranges (s.right x)
@@ -43,7 +43,7 @@ pub record SumsUp (s : Sums) (others : List Row) (plus : ℕ → Row) (j : Job) 
 pub record Layout (s : Sums) (others : List Row) (j : Job) (v : ℕ → ℕ) : Type 0 where
   pub above : (x : ℕ) → s.hidden x ≡ false → low j.ranges x ≤ v x
   pub below : (x : ℕ) → s.hidden x ≡ false → v x ≤ high j.ranges x
-  pub meets : All (λ w. w.meets (full s v) ≡ true) others
+  pub meets : AllByRecursion (λ w. w.meets (full s v) ≡ true) others
 
 -- each layout is that of one solution
 pub record ExtendOnce (s : Sums) (others : List Row) (j : Job) : Type 0 where
@@ -54,7 +54,7 @@ pub record ExtendOnce (s : Sums) (others : List Row) (j : Job) : Type 0 where
 
 -- from the hidden variable h on, the variables xs are added up one after another
 pub record Chain (s : Sums) (h : ℕ) (xs : List ℕ) : Type 0 where
-  pub plain : All (λ x. s.hidden x ≡ false) xs
+  pub plain : AllByRecursion (λ x. s.hidden x ≡ false) xs
   pub sums : (k : ℕ) → k + 1 < length xs → s.hidden (h + k) ≡ true
   pub start : 1 < length xs → s.left h ≡ slice_index xs 0
   pub next : (k : ℕ) → k + 2 < length xs → s.left (h + k + 1) ≡ h + k

@@ -1,6 +1,6 @@
 -- Jobs, what is written of them, and what solves them. Assumes nothing.
 use Rattle.std.specs.Prelude.{◌≡◌, ℕ, Bool, true, cond, List, [], ◌++◌}
-use Rattle.std.specs.List.{AllByRecursion as All}
+use Rattle.std.specs.List.{AllByRecursion}
 use Rattle.order.specs.declared.bound.Bound.{Bound}
 use Rattle.order.specs.declared.literal.Literal.{Literal}
 use Rattle.order.specs.declared.range.Range.{Range}
@@ -20,7 +20,7 @@ pub record Job : Type 0 where
 
 -- each row is lawful
 abbrev pub LawfulRows : Job → Type 0
-LawfulRows j = All (LawfulRow j.ranges) j.rows
+LawfulRows j = AllByRecursion (LawfulRow j.ranges) j.rows
 
 -- the clauses of a job: the order clauses, then those of each row
 abbrev pub clauses : Job → List (List Bound)
@@ -49,4 +49,4 @@ output j f = joined (reduced j.ranges f) (orders j.ranges) ++ joined (reduced_ro
 -- the values are in range and meet each row
 pub record Solves (j : Job) (v : ℕ → ℕ) : Type 0 where
   pub in_range : InRange j.ranges v
-  pub meets : All (λ w. w.meets v ≡ true) j.rows
+  pub meets : AllByRecursion (λ w. w.meets v ≡ true) j.rows

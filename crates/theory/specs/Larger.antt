@@ -1,6 +1,6 @@
 -- A job within a larger one: more variables and more rows. Assumes nothing.
 use Rattle.std.specs.Prelude.{◌≡◌, ℕ, ◌<◌, ◌≤◌, List, length}
-use Rattle.std.specs.List.{ContainsAt as Has, AllByRecursion as All}
+use Rattle.std.specs.List.{ContainsAt, AllByRecursion}
 use Rattle.order.specs.declared.bound.Bound.{Bound}
 use Rattle.order.specs.Ranges.{low, high}
 use Rattle.ties.specs.Relations.{Relation}
@@ -20,17 +20,17 @@ KnownTie n t = Known n t.left × Known n t.right
 
 -- all bounds of a pairing are
 abbrev pub KnownPairing : ℕ → Pairing → Type 0
-KnownPairing n p = All (KnownTie n) p.premise × KnownTie n p.gives
+KnownPairing n p = AllByRecursion (KnownTie n) p.premise × KnownTie n p.gives
 
 -- the row's bounds are on the first n variables
 pub record KnownRow (n : ℕ) (w : Row) : Type 0 where
-  pub clauses : All (All (Known n)) w.clauses
-  pub pairings : All (KnownPairing n) w.pairings
+  pub clauses : AllByRecursion (AllByRecursion (Known n)) w.clauses
+  pub pairings : AllByRecursion (KnownPairing n) w.pairings
 
 -- one of the rows has the clauses and the pairings of w
 pub record Stays (ws : List Row) (w : Row) : Type 0 where
   pub row : Row
-  pub among : Has ws row
+  pub among : ContainsAt ws row
   pub clauses : row.clauses ≡ w.clauses
   pub pairings : row.pairings ≡ w.pairings
 
@@ -39,8 +39,8 @@ pub record Larger (j k : Job) : Type 0 where
   pub more : length j.ranges ≤ length k.ranges
   pub lows : (x : ℕ) → x < length j.ranges → low k.ranges x ≡ low j.ranges x
   pub highs : (x : ℕ) → x < length j.ranges → high k.ranges x ≡ high j.ranges x
-  pub rows : All (Stays k.rows) j.rows
-  pub known : All (KnownRow (length j.ranges)) j.rows
+  pub rows : AllByRecursion (Stays k.rows) j.rows
+  pub known : AllByRecursion (KnownRow (length j.ranges)) j.rows
 
 -- what a larger job keeps of a job within it: a set closed for k is closed for j, and what is sound or refused for j is so for k
 pub record Keeps (j k : Job) : Type 0 where

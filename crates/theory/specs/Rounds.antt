@@ -1,6 +1,6 @@
 -- Settling by rounds: what a look at a clause or a pairing leaves, as long as the roots of its bounds stay. Assumes nothing.
 use Rattle.std.specs.Prelude.{◌≡◌, ℕ, true, List, [], ◌∷◌}
-use Rattle.std.specs.List.{AllByRecursion as All}
+use Rattle.std.specs.List.{AllByRecursion}
 use Rattle.order.specs.declared.bound.Bound.{Bound}
 use Rattle.order.specs.declared.literal.Literal.{Literal}
 use Rattle.order.specs.declared.literal.Literal.TheVariants.{True}
@@ -36,11 +36,11 @@ StillTie rs f g t = Still rs f g t.left × Still rs f g t.right
 
 -- all bounds of a pairing have
 abbrev pub StillPairing : List Range → (ℕ → Literal) → (ℕ → Literal) → Pairing → Type 0
-StillPairing rs f g p = All (StillTie rs f g) p.premise × StillTie rs f g p.gives
+StillPairing rs f g p = AllByRecursion (StillTie rs f g) p.premise × StillTie rs f g p.gives
 
 -- a clause was seen between f and g: where its roots have stayed, it is left out or leaves two literals
 abbrev pub Seen : List Range → (ℕ → Literal) → (ℕ → Literal) → List Bound → Type 0
-Seen rs f g c = All (Still rs f g) c → Long (reduced rs g c)
+Seen rs f g c = AllByRecursion (Still rs f g) c → Long (reduced rs g c)
 
 -- a pairing was heard between f and g: where its roots have stayed, it is followed
 abbrev pub Heard : List Range → (ℕ → Literal) → (ℕ → Literal) → Pairing → Type 0

@@ -1,6 +1,6 @@
 -- Rows: what a row asks for, and what it must show. Assumes nothing.
 use Rattle.std.specs.Prelude.{◌≡◌, ℕ, Bool, true, List, Decides}
-use Rattle.std.specs.List.{AllByRecursion as All}
+use Rattle.std.specs.List.{AllByRecursion}
 use Rattle.order.specs.declared.bound.Bound.{Bound}
 use Rattle.order.specs.declared.range.Range.{Range}
 use Rattle.order.specs.Bounds.{InRange}
@@ -26,8 +26,8 @@ row_of m items rs = record {
 
 -- what a row must show: its clauses say what it asks for, and its pairings and spent ties say no more
 pub record LawfulRow (rs : List Range) (w : Row) : Type 0 where
-  pub by_clauses : (v : ℕ → ℕ) → InRange rs v → Decides (w.meets v) (All (Met v) w.clauses)
-  pub by_pairings : (v : ℕ → ℕ) → InRange rs v → w.meets v ≡ true → All (Follows v) w.pairings
+  pub by_clauses : (v : ℕ → ℕ) → InRange rs v → Decides (w.meets v) (AllByRecursion (Met v) w.clauses)
+  pub by_pairings : (v : ℕ → ℕ) → InRange rs v → w.meets v ≡ true → AllByRecursion (Follows v) w.pairings
   pub by_ties : (v : ℕ → ℕ) (tied : Bound → Bound → Bool) → InRange rs v → Respects v tied → w.spent tied ≡ true → w.meets v ≡ true
 
 -- each row that a lawful kind takes is lawful
