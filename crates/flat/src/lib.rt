@@ -1,0 +1,4 @@
+//! Lists kept one after the other in one list of items.
+#![tactic(auto)]
+
+pub mod lists;

@@ -1,0 +1,10 @@
+//! Settling: ties are made until they are closed.
+#![tactic(auto)]
+
+pub mod follow;
+pub mod heed;
+pub mod left;
+pub mod listing;
+mod moved;
+pub mod settle;
+mod walk;
