@@ -1,5 +1,6 @@
 //! A new job, and one variable more.
-ghost use Rattle.std.specs.Prelude.{◌≡◌, ◌-◌, true};
+ghost use Rattle.std.specs.Prelude.{◌≡◌, ◌-◌, true, not};
+ghost use Rattle.order.specs.Variables.{ranges_of, few_variables};
 ghost use Rattle.job.specs.Questions.{Answers, answered};
 ghost use Rattle.job.specs.Declares.{declaring};
 ghost use Rattle.job.specs.View.{new_view};
@@ -32,7 +33,7 @@ impl OpenJob {
             return Err(Fault::Refused(Refusal::BadRange));
         };
         let bits = usize::from(range.width());
-        if self.variables.len() >= 512 {
+        if self.is_full() {
             return Err(Fault::Refused(Refusal::TooManyVariables));
         }
         if self.variables.bits() + bits > 4096 {
@@ -46,5 +47,12 @@ impl OpenJob {
             Ok(place) => Ok(place),
             Err(_) => Err(Fault::NoMemory),
         }
+    }
+
+    // Whether there is no room for one variable more.
+    fn is_full(&self) -> bool
+        ensures { result ≡ not (few_variables (ranges_of self.now.variables) 1) }
+    {
+        self.variables.len() >= 512
     }
 }
