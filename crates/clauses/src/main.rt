@@ -5,7 +5,8 @@ use compile::{Compiled, compile, refusal_line, stop_line};
 use std::io::{Read, Write};
 use std::process::ExitCode;
 
-fn main(rt: HostRuntime) -> anyhow::Result<ExitCode> {
+// Reads, compiles and prints; the status tells whether there is a clause file.
+fn answer(rt: &HostRuntime) -> anyhow::Result<ExitCode> {
     let heap = rt.alloc();
     let mut sheet = Vec::new(heap);
     rt.stdin().read_to_end(&mut sheet)?;
@@ -22,5 +23,13 @@ fn main(rt: HostRuntime) -> anyhow::Result<ExitCode> {
             rt.print(refusal_line(heap, refusal)?)?;
             Ok(ExitCode::FAILURE)
         }
+    }
+}
+
+// Nothing is printed of a failed read or write, or of want of memory: the status is 1.
+fn main(rt: HostRuntime) -> ExitCode {
+    match answer(&rt) {
+        Ok(status) => status,
+        Err(_) => ExitCode::FAILURE,
     }
 }

@@ -7,7 +7,7 @@ use Rattle.settle.specs.declared.left.Further.{Further}
 use Rattle.settle.specs.declared.left.Further.TheVariants.{Enough, Same, First}
 
 -- true, or a second literal, is enough; false and repeats change nothing
-abbrev pub Goes_on : Further → Literal → Literal → Type 0
-Goes_on Enough last root = (root ≡ True) ⊎ ((same last False ≡ false) × (same root False ≡ false) × (same root last ≡ false))
-Goes_on Same last root = (root ≡ False) ⊎ (root ≡ last)
-Goes_on First last root = (last ≡ False) × (same root True ≡ false)
+abbrev pub GoesOn : Further → Literal → Literal → Type 0
+GoesOn Enough last root = (root ≡ True) ⊎ ((same last False ≡ false) × (same root False ≡ false) × (same root last ≡ false))
+GoesOn Same last root = (root ≡ False) ⊎ (root ≡ last)
+GoesOn First last root = (last ≡ False) × (same root True ≡ false)

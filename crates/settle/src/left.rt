@@ -4,7 +4,7 @@ ghost use Rattle.ties.specs.Roots.{root_at};
 ghost use Rattle.ties.specs.Views.{roots_of};
 ghost use Rattle.theory.specs.Jobs.{reduced};
 ghost use Rattle.settle.specs.Leaves.{Leaves};
-ghost use Rattle.settle.specs.GoesOn.{Goes_on};
+ghost use Rattle.settle.specs.GoesOn.{GoesOn};
 
 use order::bound::Bound;
 use order::literal::Literal;
@@ -31,7 +31,7 @@ enum Further {
 }
 
 fn go_on(last: Literal, root: Literal) -> Further
-    ensures { Goes_on result last root }
+    ensures { GoesOn result last root }
 {
     match root {
         Literal::True => Further::Enough,
