@@ -1,0 +1,6 @@
+pub mod ReadSteps
+pub mod BitSteps
+pub mod Picking
+pub mod Counting
+pub mod Ordering
+pub mod Failing
