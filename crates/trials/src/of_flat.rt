@@ -1,0 +1,19 @@
+//! Lists kept in one list.
+use flat::lists::Lists;
+use std::test::Fail;
+
+#[test]
+fn lists_are_kept(rt: HostRuntime) -> Result<(), Fail> {
+    let mut lists: Lists<u8> = Lists::new(rt.alloc());
+    lists.push(&[1, 2])?;
+    lists.push(&[])?;
+    lists.push(&[3])?;
+    assert_eq!(rt; lists.len(), 3);
+    assert!(rt; lists.at(0) == [1, 2].as_slice());
+    assert!(rt; lists.at(1).is_empty());
+    assert!(rt; lists.at(2) == [3].as_slice());
+    assert!(rt; lists.at(3).is_empty());
+    lists.clear();
+    assert_eq!(rt; lists.len(), 0);
+    Ok(())
+}

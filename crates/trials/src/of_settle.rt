@@ -1,0 +1,49 @@
+//! Ties that rows force.
+use kinds::item::Item;
+use kinds::kinds::End;
+use linear::base::Base;
+use order::range::Range;
+use order::variables::Variables;
+use rows::storage::Rows;
+use settle::settle::settle;
+use std::alloc::Global;
+use std::test::Fail;
+use ties::classes::Ties;
+
+// The free bits before and after settling A + B = C, for these ranges; none after where the job is void.
+fn settled(heap: Global, ranges: &[(u32, u32)]) -> Result<(usize, Option<usize>), Fail> {
+    let mut variables = Variables::new(heap);
+    for (low, high) in ranges {
+        if let Some(range) = Range::new(*low, *high) {
+            variables.add(range)?;
+        }
+    }
+    let mut ties = Ties::new(heap);
+    ties.reserve(variables.bits())?;
+    ties.grow(variables.bits())?;
+    let mut rows = Rows::new(heap);
+    rows.add(
+        1,
+        &[Item::Variable(0), Item::Variable(1), Item::Variable(2)],
+    )?;
+    let copy = ties.copy(heap)?;
+    match settle::<Base<End>>(heap, &variables, &rows, &copy)? {
+        Some(after) => Ok((copy.free(), Some(after.free()))),
+        None => Ok((copy.free(), None)),
+    }
+}
+
+#[test]
+fn a_sum_is_settled(rt: HostRuntime) -> Result<(), Fail> {
+    assert_eq!(rt;
+        settled(rt.alloc(), &[(0, 5), (0, 5), (5, 5)])?,
+        (10, Some(5))
+    );
+    Ok(())
+}
+
+#[test]
+fn a_sum_out_of_reach_is_void(rt: HostRuntime) -> Result<(), Fail> {
+    assert_eq!(rt; settled(rt.alloc(), &[(0, 1), (0, 1), (3, 3)])?, (2, None));
+    Ok(())
+}
