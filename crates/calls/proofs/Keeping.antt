@@ -1,5 +1,5 @@
 -- Each call keeps the invariant. Assumes nothing.
-use Rattle.std.proofs.Common.{◌≡◌, ℕ, zero, suc, true, ltb, leb, List, [], ◌∷◌, length, Ok, vec_items, Result, sym, refl, ap, ◌∙◌, subst, arith}
+use Rattle.std.proofs.Common.{◌≡◌, ℕ, zero, suc, true, ltb, leb, List, [], ◌∷◌, length, Ok, Err, vec_items, Result, sym, refl, ap, ◌∙◌, subst, arith}
 use Rattle.std.proofs.lemmas.Bool.{false≢true, and_from, lt-ltb, le-leb}
 use Rattle.order.specs.declared.literal.Literal.{Literal}
 use Rattle.order.specs.declared.literal.Literal.TheVariants.{False, True, Bit, Not}
@@ -13,16 +13,15 @@ use Rattle.linear.specs.Leq.{leq}
 use Rattle.linear.specs.Plus.{plus}
 use Rattle.linear.specs.Same.{same}
 use Rattle.theory.specs.Rounds.{Rooted}
-use Rattle.calls.specs.declared.call.Answer.{Answer}
-use Rattle.calls.specs.declared.call.Answer.TheVariants.{Placed, Refused, Settled}
 use Rattle.calls.specs.declared.call.Call.{Call}
 use Rattle.calls.specs.declared.call.Call.TheVariants.{Declare, Post, Total, Settle}
+use Rattle.calls.specs.declared.call.Reply.TheVariants.{Placed, Settled}
 use Rattle.calls.specs.declared.refusal.Refusal.{Refusal}
 use Rattle.calls.specs.Catalogues.{Catalogue, LawfulAll, based}
 use Rattle.calls.specs.Declares.{declare_questions, declaring}
 use Rattle.calls.specs.Invariant.{Invariant}
 use Rattle.calls.specs.Posts.{post_questions, posting}
-use Rattle.calls.specs.Runs.{Asks, TiesUp, Step, Steps, Keeping, CallsKeep}
+use Rattle.calls.specs.Runs.{Answer, Asks, TiesUp, Step, Steps, Keeping, CallsKeep}
 use Rattle.calls.specs.Settles.{Triple, Settling}
 use Rattle.calls.specs.Totals.{total_questions, totalled, totalling}
 use Rattle.calls.specs.View.{View, new_view, with_variable, with_row}
@@ -72,14 +71,14 @@ settle_keeps k v t v' s inv = subst (Invariant k) (sym s.counted.after) (record 
 
 -- a call that asks questions keeps the invariant where its yes does
 asks_keep : (k : Catalogue) (r : Result (ℕ × View) Refusal) (v : View) (a : Answer) (v' : View) → ((x : ℕ) → r ≡ Ok (x, v') → Invariant k v → Invariant k v') → Asks r v a v' → Invariant k v → Invariant k v'
-asks_keep k r v (Placed x) v' kept s inv = kept x s inv
-asks_keep k r v (Refused q) v' kept s inv = subst (Invariant k) (sym s.1) inv
-asks_keep k r v (Settled b m n) v' kept s inv = absurd s
+asks_keep k r v (Ok (Placed x)) v' kept s inv = kept x s inv
+asks_keep k r v (Ok (Settled b m n)) v' kept s inv = absurd s
+asks_keep k r v (Err q) v' kept s inv = subst (Invariant k) (sym s.1) inv
 
 ties_keep : (k : Catalogue) (v : View) (a : Answer) (v' : View) → TiesUp k v a v' → Invariant k v → Invariant k v'
-ties_keep k v (Placed x) v' s inv = absurd s
-ties_keep k v (Refused q) v' s inv = absurd s
-ties_keep k v (Settled b m n) v' s inv = settle_keeps k v (b, m, n) v' s inv
+ties_keep k v (Ok (Placed x)) v' s inv = absurd s
+ties_keep k v (Ok (Settled b m n)) v' s inv = settle_keeps k v (b, m, n) v' s inv
+ties_keep k v (Err q) v' s inv = absurd s
 
 module _ (k : Catalogue) (law : LawfulAll k) where
   pub declare_keeps : (v : View) (low high x : ℕ) (v' : View) → declaring v low high ≡ Ok (x, v') → Invariant k v → Invariant k v'

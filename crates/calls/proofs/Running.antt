@@ -1,9 +1,8 @@
 -- One call more after others. Assumes nothing.
 use Rattle.std.proofs.Common.{List, [], ◌∷◌, ◌++◌, sym, refl, subst}
-use Rattle.calls.specs.declared.call.Answer.{Answer}
 use Rattle.calls.specs.declared.call.Call.{Call}
 use Rattle.calls.specs.Catalogues.{Catalogue}
-use Rattle.calls.specs.Runs.{Step, Steps}
+use Rattle.calls.specs.Runs.{Answer, Step, Steps}
 use Rattle.calls.specs.View.{View}
 
 pub steps_more : (k : Catalogue) (v u w : View) (cs : List Call) (answers : List Answer) (c : Call) (a : Answer) → Steps k v cs answers u → Step k u c a w → Steps k v (cs ++ c ∷ []) (answers ++ a ∷ []) w

@@ -1,9 +1,9 @@
 -- Lists of calls, given in order to a new job: what each answers, and what the job holds then. Assumes nothing.
 use Rattle.std.specs.Prelude.{◌≡◌, ℕ, List, [], ◌∷◌, Ok, Err, vec_items, Result}
-use Rattle.calls.specs.declared.call.Answer.{Answer}
-use Rattle.calls.specs.declared.call.Answer.TheVariants.{Placed, Refused, Settled}
 use Rattle.calls.specs.declared.call.Call.{Call}
 use Rattle.calls.specs.declared.call.Call.TheVariants.{Declare, Post, Total, Settle}
+use Rattle.calls.specs.declared.call.Reply.{Reply}
+use Rattle.calls.specs.declared.call.Reply.TheVariants.{Placed, Settled}
 use Rattle.calls.specs.declared.refusal.Refusal.{Refusal}
 use Rattle.calls.specs.Catalogues.{Catalogue, LawfulAll, based}
 use Rattle.calls.specs.Declares.{declaring}
@@ -13,17 +13,21 @@ use Rattle.calls.specs.Settles.{Settling}
 use Rattle.calls.specs.Totals.{totalling}
 use Rattle.calls.specs.View.{View, new_view}
 
+-- what a call answers: a reply, or the first no
+abbrev pub Answer : Type 0
+Answer = Result Reply Refusal
+
 -- a call that asks questions answers its place, or is refused and changes nothing
 abbrev pub Asks : Result (ℕ × View) Refusal → View → Answer → View → Type 0
-Asks r v (Placed x) v' = r ≡ Ok (x, v')
-Asks r v (Refused q) v' = (r ≡ Err q) × (v' ≡ v)
-Asks r v (Settled b m n) v' = ⊥
+Asks r v (Ok (Placed x)) v' = r ≡ Ok (x, v')
+Asks r v (Ok (Settled b m n)) v' = ⊥
+Asks r v (Err q) v' = (r ≡ Err q) × (v' ≡ v)
 
 -- a settling answers its three things
 abbrev pub TiesUp : Catalogue → View → Answer → View → Type 0
-TiesUp k v (Placed x) v' = ⊥
-TiesUp k v (Refused q) v' = ⊥
-TiesUp k v (Settled b m n) v' = Settling k v (b, m, n) v'
+TiesUp k v (Ok (Placed x)) v' = ⊥
+TiesUp k v (Ok (Settled b m n)) v' = Settling k v (b, m, n) v'
+TiesUp k v (Err q) v' = ⊥
 
 -- one call: from the view v, with this answer, to the view v'
 abbrev pub Step : Catalogue → View → Call → Answer → View → Type 0

@@ -3,6 +3,7 @@ use crate::refusal::Refusal;
 use kinds::item::Item;
 
 /// A call on an open job.
+// Kept as it is: codes and relations are numbers, as a rule of the project needs: a call may carry one that is refused.
 #[derive(Drop)]
 pub enum Call {
     /// A variable from a low to a high.
@@ -15,13 +16,14 @@ pub enum Call {
     Settle,
 }
 
-/// What a call answered.
-#[derive(Clone, Copy, Debug)]
-pub enum Answer {
-    /// A yes, with the place of the variable or the row.
+/// What a call that was taken replies.
+#[derive(Clone, Copy, PartialEq, Eq, Debug)]
+pub enum Reply {
+    /// The place of the variable or the row.
     Placed(usize),
-    /// The first no.
-    Refused(Refusal),
     /// Void or not, ties made, free bits left.
     Settled(bool, usize, usize),
 }
+
+/// What a call answered: a reply, or the first no.
+pub type Answer = Result<Reply, Refusal>;

@@ -9,86 +9,66 @@ use Rattle.answers.specs.declared.claim.ClaimFault.TheVariants.{BadLine as LineB
 use Rattle.answers.specs.declared.line.Status.{Status}
 use Rattle.answers.specs.declared.line.Status.TheVariants.{Satisfiable, Unsatisfiable, Unknown}
 use Rattle.answers.specs.Claims.{claim_in}
-use Rattle.calls.specs.declared.call.Answer.{Answer}
 use Rattle.calls.specs.declared.call.Call.{Call}
 use Rattle.calls.specs.Catalogues.{Catalogue, LawfulAll, based}
 use Rattle.calls.specs.Invariant.{Invariant}
+use Rattle.calls.specs.Runs.{Answer}
 use Rattle.calls.specs.View.{View, free_bits}
 use Rattle.calls.specs.Writes.{output}
 use Rattle.calls.proofs.BasedKinds.{lawful_based}
 use Rattle.calls.proofs.Keeping.{calls_keep}
-use Rattle.promise.specs.declared.reading.Reading.{Reading}
-use Rattle.promise.specs.declared.reading.Reading.TheVariants.{Accepted, NoneClaimed, NothingClaimed, Refused}
 use Rattle.promise.specs.declared.reading.ReadRefusal.{ReadRefusal}
 use Rattle.promise.specs.declared.reading.ReadRefusal.TheVariants.{ShortBuffer}
+use Rattle.promise.specs.declared.reading.Verdict.TheVariants.{Accepted}
 use Rattle.promise.specs.Faithful.{satisfied, Full, SameAnswer, Faithful, RunsFaithful}
 use Rattle.promise.specs.Layouts.{Permitted, SameLayout, LayoutsSolve}
-use Rattle.promise.specs.Readings.{file_variables, incomplete, judged, assignment_in, count_declared, decided, by_claim, reading, read_value}
+use Rattle.promise.specs.Readings.{Reading, file_variables, incomplete, judged, assignment_in, count_declared, decided, by_claim, reading, read_value}
 use Rattle.promise.proofs.Laying.{layouts_solve}
 use Rattle.promise.proofs.Limits.{runs_few}
 use Rattle.promise.proofs.Printing.{text_says}
 use Rattle.promise.proofs.SatFile.{void_unsatisfied}
 use Rattle.promise.proofs.Satisfying.{accepts_satisfied, judged_solves, judged_not_void, numbers_of, solution_assignment, same_numbers, assignment_like, values_like}
 
--- an outcome that is accepted is no other
-not_accepted : {X : Type 0} (q : ReadRefusal) → ◌≡◌ {A = Reading} (Refused q) Accepted → X
-not_accepted q e = absurd (no e)
-  where
-    no : ◌≡◌ {A = Reading} (Refused q) Accepted → ⊥
-    no e = let z : ◌≡◌ {A = ℕ} 0 1 = cc in omega arith
-
-none_accepted : {X : Type 0} → ◌≡◌ {A = Reading} NoneClaimed Accepted → X
-none_accepted e = absurd (no e)
-  where
-    no : ◌≡◌ {A = Reading} NoneClaimed Accepted → ⊥
-    no e = let z : ◌≡◌ {A = ℕ} 0 1 = cc in omega arith
-
-nothing_accepted : {X : Type 0} → ◌≡◌ {A = Reading} NothingClaimed Accepted → X
-nothing_accepted e = absurd (no e)
-  where
-    no : ◌≡◌ {A = Reading} NothingClaimed Accepted → ⊥
-    no e = let z : ◌≡◌ {A = ℕ} 0 1 = cc in omega arith
-
 -- accepted exactly where neither refusal comes
-decided_none : (o p : Option ReadRefusal) → decided o p ≡ Accepted → (o ≡ None) × (p ≡ None)
-decided_none (Some q) p e = not_accepted q e
-decided_none None (Some q) e = not_accepted q e
+decided_none : (o p : Option ReadRefusal) → decided o p ≡ Ok Accepted → (o ≡ None) × (p ≡ None)
+decided_none (Some q) p e = absurd (grind arith)
+decided_none None (Some q) e = absurd (grind arith)
 decided_none None None e = (refl, refl)
 
-claim_accepted : (k : Catalogue) (v : View) (text : List ℕ) (c : Result Status ClaimFault) → by_claim k v text c ≡ Accepted → (c ≡ Ok Satisfiable) × ((incomplete v text ≡ None) × (judged k v (assignment_in text) ≡ None))
-claim_accepted k v text (Err LineBad) e = not_accepted _ e
-claim_accepted k v text (Err StatusBad) e = not_accepted _ e
-claim_accepted k v text (Err ValuesStray) e = not_accepted _ e
-claim_accepted k v text (Ok Unsatisfiable) e = none_accepted e
-claim_accepted k v text (Ok Unknown) e = nothing_accepted e
+claim_accepted : (k : Catalogue) (v : View) (text : List ℕ) (c : Result Status ClaimFault) → by_claim k v text c ≡ Ok Accepted → (c ≡ Ok Satisfiable) × ((incomplete v text ≡ None) × (judged k v (assignment_in text) ≡ None))
+claim_accepted k v text (Err LineBad) e = absurd (grind arith)
+claim_accepted k v text (Err StatusBad) e = absurd (grind arith)
+claim_accepted k v text (Err ValuesStray) e = absurd (grind arith)
+claim_accepted k v text (Ok Unsatisfiable) e = absurd (grind arith)
+claim_accepted k v text (Ok Unknown) e = absurd (grind arith)
 claim_accepted k v text (Ok Satisfiable) e = (refl, decided_none (incomplete v text) (judged k v (assignment_in text)) e)
 
-room_accepted : (b : Bool) (r : Reading) → cond b r (Refused ShortBuffer) ≡ Accepted → (b ≡ true) × (r ≡ Accepted)
+room_accepted : (b : Bool) (r : Reading) → cond b r (Err ShortBuffer) ≡ Ok Accepted → (b ≡ true) × (r ≡ Ok Accepted)
 room_accepted true r e = (refl, e)
-room_accepted false r e = not_accepted _ e
+room_accepted false r e = absurd (grind arith)
 
 module _ (k : Catalogue) (v : View) (n : ℕ) (text : List ℕ) where
   -- what is accepted is full, and judged right
-  accepted_full : reading k v n text ≡ Accepted → Full v n text
+  accepted_full : reading k v n text ≡ Ok Accepted → Full v n text
   accepted_full e =
       let room = room_accepted (leb (count_declared v.declared) n) (by_claim k v text (claim_in text)) e in
       let claim = claim_accepted k v text (claim_in text) room.1 in
       record { room = leb-true (count_declared v.declared) n room.0; claims = claim.0; complete = claim.1.0 }
 
-  accepted_judged : reading k v n text ≡ Accepted → judged k v (assignment_in text) ≡ None
+  accepted_judged : reading k v n text ≡ Ok Accepted → judged k v (assignment_in text) ≡ None
   accepted_judged e = (claim_accepted k v text (claim_in text) (room_accepted (leb (count_declared v.declared) n) (by_claim k v text (claim_in text)) e).1).1.1
 
   -- and the other way round
-  full_accepted : Full v n text → judged k v (assignment_in text) ≡ None → reading k v n text ≡ Accepted
+  full_accepted : Full v n text → judged k v (assignment_in text) ≡ None → reading k v n text ≡ Ok Accepted
   full_accepted full right =
-      ap (λ b. cond b (by_claim k v text (claim_in text)) (Refused ShortBuffer)) (le-leb (count_declared v.declared) n full.room)
+      ap (λ b. cond b (by_claim k v text (claim_in text)) (Err ShortBuffer)) (le-leb (count_declared v.declared) n full.room)
       ∙ ap (by_claim k v text) full.claims
       ∙ ap (λ o. decided o (judged k v (assignment_in text))) full.complete
       ∙ ap (decided None) right
 
 module _ (k : Catalogue) (law : LawfulAll k) (v : View) (inv : Invariant k v) where
   -- reading accepts a full answer exactly when it satisfies every clause
-  accepts_full : (n : ℕ) (text : List ℕ) → Full v n text → Decides (satisfied (assignment_in text) (output k v)) (reading k v n text ≡ Accepted)
+  accepts_full : (n : ℕ) (text : List ℕ) → Full v n text → Decides (satisfied (assignment_in text) (output k v)) (reading k v n text ≡ Ok Accepted)
   accepts_full n text full = elim (cases_Bool v.void) [
     | inl void ↦ (
       (λ h. absurd (false≢true (sym (void_unsatisfied k v (assignment_in text) void) ∙ h))),
@@ -101,7 +81,7 @@ module _ (k : Catalogue) (law : LawfulAll k) (v : View) (inv : Invariant k v) wh
 
   module _ (cs : List Call) (answers : List Answer) (lay : LayoutsSolve k cs answers v) (small : file_variables v ≤ 4096) where
     -- each permitted layout comes from an answer
-    comes_from : (u : ℕ → ℕ) → Permitted k cs answers v u → (text : List ℕ) × (((n : ℕ) → count_declared v.declared ≤ n → reading k v n text ≡ Accepted) × SameLayout v (read_value v (assignment_in text)) u)
+    comes_from : (u : ℕ → ℕ) → Permitted k cs answers v u → (text : List ℕ) × (((n : ℕ) → count_declared v.declared ≤ n → reading k v n text ≡ Ok Accepted) × SameLayout v (read_value v (assignment_in text)) u)
     comes_from u permitted =
         let solved = lay.extends u permitted in
         let w = solved.0 in
@@ -119,7 +99,7 @@ module _ (k : Catalogue) (law : LawfulAll k) (v : View) (inv : Invariant k v) wh
         )
 
     -- and from one alone
-    comes_once : (n m : ℕ) (s t : List ℕ) → reading k v n s ≡ Accepted → reading k v m t ≡ Accepted → SameLayout v (read_value v (assignment_in s)) (read_value v (assignment_in t)) → SameAnswer v s t
+    comes_once : (n m : ℕ) (s t : List ℕ) → reading k v n s ≡ Ok Accepted → reading k v m t ≡ Ok Accepted → SameLayout v (read_value v (assignment_in s)) (read_value v (assignment_in t)) → SameAnswer v s t
     comes_once n m s t p q same i low high =
         let a = accepted_judged k v n s p in
         let b = accepted_judged k v m t q in

@@ -1,5 +1,5 @@
 -- Each permitted layout is that of exactly one solution of the job's rules. Assumes nothing.
-use Rattle.std.proofs.Common.{◌≡◌, ℕ, ◌<◌, ◌≤◌, true, cond, eqb, ltb, leb, List, [], ◌∷◌, map, length, Ok, vec_items, Result, sym, refl, ap, ◌∙◌, subst, inl, inr, arith}
+use Rattle.std.proofs.Common.{◌≡◌, ℕ, ◌<◌, ◌≤◌, true, cond, eqb, ltb, leb, List, [], ◌∷◌, map, length, is_ok, Ok, Err, vec_items, Result, sym, refl, ap, ◌∙◌, subst, inl, inr, arith}
 use Rattle.std.specs.List.{AllByRecursion}
 use Rattle.std.proofs.lemmas.List.{get_or_past}
 use Rattle.std.proofs.ByRecursion.{All-map}
@@ -13,23 +13,22 @@ use Rattle.linear.specs.Plus.{plus}
 use Rattle.linear.specs.Same.{same}
 use Rattle.theory.specs.Jobs.{Solves}
 use Rattle.theory.specs.Rows.{Row}
-use Rattle.calls.specs.declared.call.Answer.{Answer}
-use Rattle.calls.specs.declared.call.Answer.TheVariants.{Placed, Refused, Settled}
 use Rattle.calls.specs.declared.call.Call.{Call}
 use Rattle.calls.specs.declared.call.Call.TheVariants.{Declare, Post, Total, Settle}
+use Rattle.calls.specs.declared.call.Reply.TheVariants.{Placed, Settled}
 use Rattle.calls.specs.declared.refusal.Refusal.{Refusal}
 use Rattle.calls.specs.Catalogues.{Catalogue, LawfulAll, based}
 use Rattle.calls.specs.Declares.{declare_questions, declaring}
 use Rattle.calls.specs.Jobs.{posted_row}
 use Rattle.calls.specs.Posts.{all_declared, post_questions, posting}
-use Rattle.calls.specs.Runs.{Asks, TiesUp, Step, Steps, Runs}
+use Rattle.calls.specs.Runs.{Answer, Asks, TiesUp, Step, Steps, Runs}
 use Rattle.calls.specs.Settles.{rules}
 use Rattle.calls.specs.Totals.{highs, total_questions, totalled, totalling}
 use Rattle.calls.specs.View.{View, new_view, with_variable, with_row, with_ties, is_declared}
 use Rattle.calls.proofs.Answering.{answered_yes}
 use Rattle.calls.proofs.BasedKinds.{lawful_based}
 use Rattle.calls.proofs.Sitting.{names_below, declared_below}
-use Rattle.promise.specs.Layouts.{sum_of, related, holds_call, accepted, HoldsAll, SameLayout, LayoutsSolve}
+use Rattle.promise.specs.Layouts.{sum_of, related, holds_call, HoldsAll, SameLayout, LayoutsSolve}
 use Rattle.promise.proofs.LayParts.{Solved, Laid, laid_as, declared_there, row_laid, declared_laid}
 use Rattle.promise.proofs.LayTotals.{total_laid}
 
@@ -55,20 +54,20 @@ named_same v w u same (i ∷ items) h x g =
 
 -- what is left of P with one call more
 abbrev Asked : Catalogue → ((ℕ → ℕ) → Type 0) → Call → Answer → (ℕ → ℕ) → Type 0
-Asked k P c a u = P u × (accepted a ≡ true → holds_call k u c ≡ true)
+Asked k P c a u = P u × (is_ok a ≡ true → holds_call k u c ≡ true)
 
 module _ (k : Catalogue) (P : (ℕ → ℕ) → Type 0) (v : View) (l : Laid k v P) where
   asks_laid : (c : Call) (r : Result (ℕ × View) Refusal) (a : Answer) (v' : View) → ((x : ℕ) → r ≡ Ok (x, v') → Laid k v' (λ u. P u × (holds_call k u c ≡ true))) → Asks r v a v' → Laid k v' (Asked k P c a)
-  asks_laid c r (Placed x) v' placed s = laid_as (λ u. P u × (holds_call k u c ≡ true)) (Asked k P c (Placed x)) (λ u q. (q.0, q.1 refl)) (λ u q. (q.0, λ _. q.1)) (placed x s)
-  asks_laid c r (Refused q) v' placed s = subst (λ v. Laid k v (Asked k P c (Refused q))) (sym s.1) (laid_as P (Asked k P c (Refused q)) (λ u p. p.0) (λ u p. (p, λ e. absurd (false≢true e))) l)
-  asks_laid c r (Settled b m n) v' placed s = absurd s
+  asks_laid c r (Ok (Placed x)) v' placed s = laid_as (λ u. P u × (holds_call k u c ≡ true)) (Asked k P c (Ok (Placed x))) (λ u q. (q.0, q.1 refl)) (λ u q. (q.0, λ _. q.1)) (placed x s)
+  asks_laid c r (Ok (Settled b m n)) v' placed s = absurd s
+  asks_laid c r (Err q) v' placed s = subst (λ v. Laid k v (Asked k P c (Err q))) (sym s.1) (laid_as P (Asked k P c (Err q)) (λ u p. p.0) (λ u p. (p, λ e. absurd (false≢true e))) l)
 
   settle_laid : (a : Answer) (v' : View) → TiesUp k v a v' → Laid k v' (Asked k P Settle a)
-  settle_laid (Placed x) v' s = absurd s
-  settle_laid (Refused q) v' s = absurd s
-  settle_laid (Settled b m n) v' s =
+  settle_laid (Ok (Placed x)) v' s = absurd s
+  settle_laid (Err q) v' s = absurd s
+  settle_laid (Ok (Settled b m n)) v' s =
       let tied : Laid k (with_ties v v'.root b) P = record { beside = l.beside; stays = l.stays; extends = l.extends; holds = l.holds; only = l.only } in
-      subst (λ v. Laid k v (Asked k P Settle (Settled b m n))) (sym s.counted.after) (laid_as P (Asked k P Settle (Settled b m n)) (λ u p. p.0) (λ u p. (p, λ _. refl)) tied)
+      subst (λ v. Laid k v (Asked k P Settle (Ok (Settled b m n)))) (sym s.counted.after) (laid_as P (Asked k P Settle (Ok (Settled b m n))) (λ u p. p.0) (λ u p. (p, λ _. refl)) tied)
 
   declare_laid : (low high x : ℕ) (v' : View) → declaring v low high ≡ Ok (x, v') → Laid k v' (λ u. P u × (true ≡ true))
   declare_laid low high x v' e =

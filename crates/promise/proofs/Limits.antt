@@ -1,18 +1,17 @@
 -- A job never has more than 4,096 bits, whatever calls it was given. Assumes nothing.
-use Rattle.std.proofs.Common.{◌≡◌, ℕ, ◌+◌, ◌-◌, ◌≤◌, true, List, [], ◌∷◌, length, Ok, vec_items, Result, sym, subst, arith, lit≤}
+use Rattle.std.proofs.Common.{◌≡◌, ℕ, ◌+◌, ◌-◌, ◌≤◌, true, List, [], ◌∷◌, length, Ok, Err, vec_items, Result, sym, subst, arith, lit≤}
 use Rattle.std.proofs.lemmas.Bool.{leb-true}
 use Rattle.order.specs.Ranges.{range, total_bits}
 use Rattle.kinds.specs.declared.item.Item.{Item}
 use Rattle.kinds.specs.Items.{variable_of}
-use Rattle.calls.specs.declared.call.Answer.{Answer}
-use Rattle.calls.specs.declared.call.Answer.TheVariants.{Placed, Refused, Settled}
 use Rattle.calls.specs.declared.call.Call.{Call}
 use Rattle.calls.specs.declared.call.Call.TheVariants.{Declare, Post, Total, Settle}
+use Rattle.calls.specs.declared.call.Reply.TheVariants.{Placed, Settled}
 use Rattle.calls.specs.declared.refusal.Refusal.{Refusal}
 use Rattle.calls.specs.Catalogues.{Catalogue}
 use Rattle.calls.specs.Declares.{declare_questions, declaring}
 use Rattle.calls.specs.Posts.{post_questions, posting}
-use Rattle.calls.specs.Runs.{Asks, TiesUp, Step, Steps, Runs}
+use Rattle.calls.specs.Runs.{Answer, Asks, TiesUp, Step, Steps, Runs}
 use Rattle.calls.specs.Totals.{total_questions, totalled, totalling}
 use Rattle.calls.specs.View.{View, new_view, with_variable, with_row}
 use Rattle.calls.proofs.Answering.{answered_yes}
@@ -22,14 +21,14 @@ abbrev FewBits : View → Type 0
 FewBits v = total_bits v.ranges ≤ 4096
 
 asks_few : (r : Result (ℕ × View) Refusal) (v : View) (a : Answer) (v' : View) → ((x : ℕ) → r ≡ Ok (x, v') → FewBits v → FewBits v') → Asks r v a v' → FewBits v → FewBits v'
-asks_few r v (Placed x) v' few s h = few x s h
-asks_few r v (Refused q) v' few s h = subst FewBits (sym s.1) h
-asks_few r v (Settled b m n) v' few s h = absurd s
+asks_few r v (Ok (Placed x)) v' few s h = few x s h
+asks_few r v (Ok (Settled b m n)) v' few s h = absurd s
+asks_few r v (Err q) v' few s h = subst FewBits (sym s.1) h
 
 ties_few : (k : Catalogue) (v : View) (a : Answer) (v' : View) → TiesUp k v a v' → FewBits v → FewBits v'
-ties_few k v (Placed x) v' s h = absurd s
-ties_few k v (Refused q) v' s h = absurd s
-ties_few k v (Settled b m n) v' s h = subst FewBits (sym s.counted.after) h
+ties_few k v (Ok (Placed x)) v' s h = absurd s
+ties_few k v (Ok (Settled b m n)) v' s h = subst FewBits (sym s.counted.after) h
+ties_few k v (Err q) v' s h = absurd s
 
 declare_few : (v : View) (low high x : ℕ) (v' : View) → declaring v low high ≡ Ok (x, v') → FewBits v → FewBits v'
 declare_few v low high x v' e _ =

@@ -3,13 +3,12 @@ use Rattle.std.specs.Prelude.{◌≡◌, ℕ, ◌≤◌, Bool, true, false, cond
 use Rattle.sink.specs.declared.lit.Lit.{Lit}
 use Rattle.answers.specs.declared.line.Status.TheVariants.{Satisfiable}
 use Rattle.answers.specs.Claims.{claim_in}
-use Rattle.calls.specs.declared.call.Answer.{Answer}
 use Rattle.calls.specs.declared.call.Call.{Call}
 use Rattle.calls.specs.Catalogues.{Catalogue, LawfulAll, based}
-use Rattle.calls.specs.Runs.{Runs}
+use Rattle.calls.specs.Runs.{Answer, Runs}
 use Rattle.calls.specs.View.{View}
 use Rattle.calls.specs.Writes.{output}
-use Rattle.promise.specs.declared.reading.Reading.TheVariants.{Accepted}
+use Rattle.promise.specs.declared.reading.Verdict.TheVariants.{Accepted}
 use Rattle.promise.specs.Layouts.{Permitted, SameLayout}
 use Rattle.promise.specs.Readings.{file_variables, incomplete, assignment_in, count_declared, reading, read_value}
 
@@ -38,13 +37,13 @@ SameAnswer v s t = (n : ℕ) → 1 ≤ n → n ≤ file_variables v → assignme
 -- what a job that came from these calls promises of the clauses written of it
 pub record Faithful (k : Catalogue) (cs : List Call) (answers : List Answer) (v : View) (clauses : List (List Lit)) : Type 0 where
   -- reading accepts a full answer exactly when it satisfies every clause
-  pub accepts : (n : ℕ) (text : List ℕ) → Full v n text → Decides (satisfied (assignment_in text) clauses) (reading k v n text ≡ Accepted)
+  pub accepts : (n : ℕ) (text : List ℕ) → Full v n text → Decides (satisfied (assignment_in text) clauses) (reading k v n text ≡ Ok Accepted)
   -- what is accepted is a full answer, and gives a permitted layout
-  pub full : (n : ℕ) (text : List ℕ) → reading k v n text ≡ Accepted → Full v n text
-  pub gives : (n : ℕ) (text : List ℕ) → reading k v n text ≡ Accepted → Permitted k cs answers v (read_value v (assignment_in text))
+  pub full : (n : ℕ) (text : List ℕ) → reading k v n text ≡ Ok Accepted → Full v n text
+  pub gives : (n : ℕ) (text : List ℕ) → reading k v n text ≡ Ok Accepted → Permitted k cs answers v (read_value v (assignment_in text))
   -- each permitted layout comes from an accepted answer, and from one alone
-  pub comes : (u : ℕ → ℕ) → Permitted k cs answers v u → (text : List ℕ) × (((n : ℕ) → count_declared v.declared ≤ n → reading k v n text ≡ Accepted) × SameLayout v (read_value v (assignment_in text)) u)
-  pub once : (n m : ℕ) (s t : List ℕ) → reading k v n s ≡ Accepted → reading k v m t ≡ Accepted → SameLayout v (read_value v (assignment_in s)) (read_value v (assignment_in t)) → SameAnswer v s t
+  pub comes : (u : ℕ → ℕ) → Permitted k cs answers v u → (text : List ℕ) × (((n : ℕ) → count_declared v.declared ≤ n → reading k v n text ≡ Ok Accepted) × SameLayout v (read_value v (assignment_in text)) u)
+  pub once : (n m : ℕ) (s t : List ℕ) → reading k v n s ≡ Ok Accepted → reading k v m t ≡ Ok Accepted → SameLayout v (read_value v (assignment_in s)) (read_value v (assignment_in t)) → SameAnswer v s t
 
 -- so it is for each list of calls given to a new job, which knows plus, leq and same, and any others that keep the laws
 abbrev pub RunsFaithful : Type 0

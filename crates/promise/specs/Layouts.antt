@@ -1,14 +1,13 @@
 -- Layouts: values of the declared variables that the accepted calls permit. Assumes nothing.
-use Rattle.std.specs.Prelude.{◌≡◌, ℕ, ◌+◌, ◌≤◌, Bool, true, false, cond, List, [], ◌∷◌, vec_items, ◌==◌, nat_le}
+use Rattle.std.specs.Prelude.{◌≡◌, ℕ, ◌+◌, ◌≤◌, Bool, true, cond, List, [], ◌∷◌, is_ok, vec_items, ◌==◌, nat_le}
 use Rattle.order.specs.Ranges.{low, high}
 use Rattle.kinds.specs.declared.item.Item.{Item}
 use Rattle.kinds.specs.Items.{variable_of}
 use Rattle.theory.specs.Jobs.{Solves}
-use Rattle.calls.specs.declared.call.Answer.{Answer}
-use Rattle.calls.specs.declared.call.Answer.TheVariants.{Placed, Refused, Settled}
 use Rattle.calls.specs.declared.call.Call.{Call}
 use Rattle.calls.specs.declared.call.Call.TheVariants.{Declare, Post, Total, Settle}
 use Rattle.calls.specs.Catalogues.{Catalogue}
+use Rattle.calls.specs.Runs.{Answer}
 use Rattle.calls.specs.Settles.{rules}
 use Rattle.calls.specs.View.{View, is_declared}
 
@@ -28,16 +27,11 @@ holds_call k u (Post code items) = (k.meaning code).meets (vec_items items) u
 holds_call k u (Total relation target items) = related relation (sum_of u (vec_items items)) (u (variable_of target))
 holds_call k u Settle = true
 
-abbrev pub accepted : Answer → Bool
-accepted (Placed x) = true
-accepted (Refused q) = false
-accepted (Settled b m n) = true
-
 -- the values hold all that the accepted calls ask
 abbrev pub HoldsAll : Catalogue → (ℕ → ℕ) → List Call → List Answer → Type 0
 HoldsAll k u [] answers = Unit {0}
 HoldsAll k u (c ∷ cs) [] = Unit {0}
-HoldsAll k u (c ∷ cs) (a ∷ answers) = (accepted a ≡ true → holds_call k u c ≡ true) × HoldsAll k u cs answers
+HoldsAll k u (c ∷ cs) (a ∷ answers) = (is_ok a ≡ true → holds_call k u c ≡ true) × HoldsAll k u cs answers
 
 -- a permitted layout: each declared variable has a value in its range, and all accepted rows and totals hold
 pub record Permitted (k : Catalogue) (cs : List Call) (answers : List Answer) (v : View) (u : ℕ → ℕ) : Type 0 where

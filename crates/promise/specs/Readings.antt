@@ -18,10 +18,14 @@ use Rattle.answers.specs.Literals.{all_literals, value_words, literals_in}
 use Rattle.answers.specs.Assignments.{zero_ends, given_once, says}
 use Rattle.calls.specs.Catalogues.{Catalogue}
 use Rattle.calls.specs.View.{View, free_bits}
-use Rattle.promise.specs.declared.reading.Reading.{Reading}
-use Rattle.promise.specs.declared.reading.Reading.TheVariants.{Accepted, NoneClaimed, NothingClaimed, Refused}
 use Rattle.promise.specs.declared.reading.ReadRefusal.{ReadRefusal}
 use Rattle.promise.specs.declared.reading.ReadRefusal.TheVariants.{ShortBuffer, BadLine, BadStatus, StrayValues, BadWord, BadEnd, NotOnce, VoidJob, Unordered, Unmet}
+use Rattle.promise.specs.declared.reading.Verdict.{Verdict}
+use Rattle.promise.specs.declared.reading.Verdict.TheVariants.{Accepted, NoneClaimed, NothingClaimed}
+
+-- what reading an answer comes to: a verdict, or the first no
+abbrev pub Reading : Type 0
+Reading = Result Verdict ReadRefusal
 
 -- how many variables the file has: the free bits, none where the job is void
 abbrev pub file_variables : View → ℕ
@@ -77,21 +81,21 @@ count_declared (d ∷ ds) = cond d 1 0 + count_declared ds
 
 -- the first refusal of two, else accepted
 abbrev pub decided : Option ReadRefusal → Option ReadRefusal → Reading
-decided (Some q) next = Refused q
-decided None (Some q) = Refused q
-decided None None = Accepted
+decided (Some q) next = Err q
+decided None (Some q) = Err q
+decided None None = Ok Accepted
 
 abbrev pub by_claim : Catalogue → View → List ℕ → Result Status ClaimFault → Reading
-by_claim k v text (Err LineBad) = Refused BadLine
-by_claim k v text (Err StatusBad) = Refused BadStatus
-by_claim k v text (Err ValuesStray) = Refused StrayValues
-by_claim k v text (Ok Unsatisfiable) = NoneClaimed
-by_claim k v text (Ok Unknown) = NothingClaimed
+by_claim k v text (Err LineBad) = Err BadLine
+by_claim k v text (Err StatusBad) = Err BadStatus
+by_claim k v text (Err ValuesStray) = Err StrayValues
+by_claim k v text (Ok Unsatisfiable) = Ok NoneClaimed
+by_claim k v text (Ok Unknown) = Ok NothingClaimed
 by_claim k v text (Ok Satisfiable) = decided (incomplete v text) (judged k v (assignment_in text))
 
 -- Value buffer of n places long enough? Then the questions of the answer's lines, of its words, and of the job
 abbrev pub reading : Catalogue → View → ℕ → List ℕ → Reading
-reading k v n text = cond (nat_le (count_declared v.declared) n) (by_claim k v text (claim_in text)) (Refused ShortBuffer)
+reading k v n text = cond (nat_le (count_declared v.declared) n) (by_claim k v text (claim_in text)) (Err ShortBuffer)
 
 -- the values of the declared variables, in order, the first of these marks being that of x
 abbrev pub picked : List Bool → ℕ → (ℕ → ℕ) → List ℕ
@@ -104,7 +108,7 @@ values_read v text = picked v.declared 0 (read_value v (assignment_in text))
 
 -- accepted values start the buffer, and the rest stays; any other outcome leaves all of it
 abbrev pub buffer_after : Reading → View → List ℕ → List ℕ → List ℕ
-buffer_after Accepted v text buffer = values_read v text ++ drop (length (values_read v text)) buffer
-buffer_after NoneClaimed v text buffer = buffer
-buffer_after NothingClaimed v text buffer = buffer
-buffer_after (Refused q) v text buffer = buffer
+buffer_after (Ok Accepted) v text buffer = values_read v text ++ drop (length (values_read v text)) buffer
+buffer_after (Ok NoneClaimed) v text buffer = buffer
+buffer_after (Ok NothingClaimed) v text buffer = buffer
+buffer_after (Err q) v text buffer = buffer

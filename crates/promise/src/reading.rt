@@ -3,7 +3,7 @@ ghost use Rattle.std.specs.Prelude.{◌≡◌};
 ghost use Rattle.promise.specs.Refusals.{number};
 
 /// Why an answer was refused, by what the answer no means.
-#[derive(Clone, Copy, Debug)]
+#[derive(Clone, Copy, PartialEq, Eq, Debug)]
 pub enum ReadRefusal {
     ShortBuffer,
     BadLine,
@@ -21,6 +21,7 @@ pub enum ReadRefusal {
 
 impl ReadRefusal {
     /// The number that users see.
+    // Kept as it is: the new form is no plainer: two cases carry a place, so no cast of a discriminant gives the number.
     pub fn number(self) -> u8
         ensures { result ≡ number self }
     {
@@ -39,13 +40,15 @@ impl ReadRefusal {
     }
 }
 
-/// What reading an answer comes to. Only an accepted answer gives values.
-#[derive(Clone, Copy, Debug)]
-pub enum Reading {
+/// What an answer that was not refused comes to. Only an accepted answer gives values.
+#[derive(Clone, Copy, PartialEq, Eq, Debug)]
+pub enum Verdict {
     Accepted,
     /// The solver claims that there is no layout.
     NoneClaimed,
     /// The solver claims nothing.
     NothingClaimed,
-    Refused(ReadRefusal),
 }
+
+/// What reading an answer comes to: a verdict, or the first no.
+pub type Reading = Result<Verdict, ReadRefusal>;
