@@ -1,5 +1,5 @@
 //! Lines, words and shapes.
-use words::lines::{next_line, next_word};
+use words::lines::{Lines, Words, next_line, next_word};
 use words::parts::Part;
 use words::shapes::{is_name, number};
 use words::tokens::Word;
@@ -36,6 +36,23 @@ fn words_are_parted_by_blanks(rt: HostRuntime) {
     assert_eq!(rt; word(text, 8, 10), None);
     assert_eq!(rt; word(text, 11, 12), None);
     assert_eq!(rt; Part { start: 6, end: 20 }.of(text).len(), 4);
+}
+
+#[test]
+fn lines_and_words_come_in_order(rt: HostRuntime) {
+    let text = b"ab cd\n\n  e\n";
+    let mut lines = Lines::of(text);
+    let Some((first, ab)) = lines.next() else {
+        return;
+    };
+    assert_eq!(rt; (first.start, first.end), (0, 5));
+    assert!(rt; ab == b"ab cd".as_slice());
+    assert_eq!(rt; lines.count(), 2);
+    let mut words = Words::of(ab);
+    assert!(rt; matches!(words.next(), Some((Part { start: 0, end: 2 }, _))));
+    assert!(rt; matches!(words.next(), Some((Part { start: 3, end: 5 }, _))));
+    assert!(rt; words.next().is_none());
+    assert_eq!(rt; Words::within(text, Part { start: 4, end: 10 }).count(), 2);
 }
 
 #[test]

@@ -1,25 +1,15 @@
 -- The first line and the first word of a list by their places. Assumes nothing.
-use Rattle.std.proofs.Common.{◌≡◌, ℕ, suc, ◌+◌, ◌-◌, ◌<◌, ◌≤◌, min, true, List, [], ◌∷◌, ◌++◌, length, get_or, take, drop, sym, refl, ap, ◌∙◌, inl, inr, append-nil, arith, take-append-drop}
+use Rattle.std.proofs.Common.{◌≡◌, ℕ, ◌+◌, ◌-◌, ◌<◌, ◌≤◌, min, not, false, cond, eqb, ltb, Some, None, Option, List, [], ◌∷◌, length, get_or, take, drop, sym, refl, ap, ◌∙◌, inl, inr, arith}
 use Rattle.std.specs.List.{between}
-use Rattle.std.proofs.lemmas.List.Edits.{length-between, get_or-between}
-use Rattle.std.proofs.lemmas.List.{take_all, take-take, drop_all, drop-drop, drop_more, length-drop}
+use Rattle.std.specs.Option.{unwrap_or}
+use Rattle.std.proofs.lemmas.List.{take-take, take_min, drop-take, drop-drop, drop_all, get_or-drop, length-drop, length-take}
+use Rattle.std.proofs.lemmas.List.Sums.{prefix_len-le-length, passes_at_first}
 use Rattle.std.proofs.lemmas.Slice.{between_is}
-use Rattle.std.proofs.lemmas.Bool.{cases_lt, eq-eqb}
+use Rattle.std.proofs.lemmas.Bool.{cases_lt, not-true, cond-true, cond-false, lt-ltb, le-ltb}
 use Rattle.words.specs.Parts.{bytes, part, FirstLine, FirstWord}
 use Rattle.words.specs.Split.{lines, words}
 use Rattle.words.specs.declared.parts.Part.{Part}
-use Rattle.words.proofs.Splitting.{lacks, lacks_from_reads, lines_first, lines_lacks, parted, words_more}
-
--- what is past a list's end is in no part of it
-between_before_end : (text : List ℕ) (a b : ℕ) → between a (min b (length text)) text ≡ between a b text
-between_before_end text a b =
-    elim (cases_lt b (length text)) [
-      | inl lt ↦ ap (λ e. between a e text) (omega arith)
-      | inr le ↦
-          ap (λ e. between a e text) (omega arith)
-          ∙ take_all (length text - a) (drop a text) (omega (arith, length-drop a text))
-          ∙ sym (take_all (b - a) (drop a text) (omega (arith, length-drop a text)))
-    ]
+use Rattle.words.proofs.Splitting.{before, blanks, lines_first, words_after_blanks, words_first}
 
 between_crossed : (text : List ℕ) (a e : ℕ) → e ≤ a → between a e text ≡ []
 between_crossed text a e le = let n : e - a ≡ 0 = omega arith in rw n
@@ -32,98 +22,104 @@ between_inside text a b s e is same crossed =
       | inr le ↦ between_crossed text s e (crossed le) ∙ sym (between_crossed text a e le)
     ]
     ∙ ap (λ n. between a n text) is
-    ∙ between_before_end text a b
-
-module _ (text : List ℕ) (a e : ℕ) (le : a ≤ e) where
-  cut : drop a text ≡ between a e text ++ drop e text
-  cut =
-      sym (take-append-drop (e - a) (drop a text))
-      ∙ ap (λ r. between a e text ++ r) (drop-drop (e - a) a text ∙ ap (λ n. drop n text) (omega arith))
-
-  lacks_between : (x : ℕ) → e ≤ length text → ((k : ℕ) → a ≤ k → k < e → get_or text k 0 ≡ x → ⊥) → lacks x (between a e text) ≡ true
-  lacks_between x within none =
-      lacks_from_reads x (between a e text)
-      (λ k h. let n = length-between text a e within in rw (get_or-between text a e k 0 (omega arith)) (none (a + k) (omega arith) (omega arith)))
-
-  some_between : a < e → e ≤ length text → 0 < length (between a e text)
-  some_between lt within = omega (arith, length-between text a e within)
-
-  -- the line from a on and before e
-  line_at : a < length text → e ≤ length text → ((k : ℕ) → a ≤ k → k < e → get_or text k 0 ≡ 10 → ⊥) → (e < length text → get_or text e 0 ≡ 10) → lines (drop a text) ≡ between a e text ∷ lines (drop (e + 1) text)
-  line_at some within none ends =
-      elim (cases_lt e (length text)) [
-        | inl lt ↦
-            ap lines (cut ∙ ap (λ r. between a e text ++ r) (drop_more text e 0 lt ∙ ap (λ b. b ∷ drop (e + 1) text) (ends lt)))
-            ∙ lines_first (between a e text) (drop (e + 1) text) (lacks_between 10 within none)
-        | inr past ↦
-            ap lines (cut ∙ ap (λ r. between a e text ++ r) (drop_all e text past) ∙ append-nil (between a e text))
-            ∙ lines_lacks (between a e text) (some_between (omega arith) within) (lacks_between 10 within none)
-            ∙ ap (λ r. between a e text ∷ lines r) (sym (drop_all (e + 1) text (omega arith)))
-      ]
-
-  pub first_line : a < length text → e ≤ length text → ((k : ℕ) → a ≤ k → k < e → get_or text k 0 ≡ 10 → ⊥) → (e < length text → get_or text e 0 ≡ 10) → FirstLine text a (part a e)
-  first_line some within none ends = record {
-    starts = refl;
-    forward = le;
-    within = within;
-    some = some;
-    first = line_at some within none ends;
-  }
+    ∙ between_is text a (min b (length text))
+    ∙ ap (drop a) (take_min b text)
+    ∙ sym (between_is text a b)
 
 pub no_line : (text : List ℕ) (a : ℕ) → length text ≤ a → lines (drop a text) ≡ []
 no_line text a past = ap lines (drop_all a text past)
 
--- the words of a part that ends before m
-module _ (text : List ℕ) (m : ℕ) (inside : m ≤ length text) where
-  between_first : (a : ℕ) → a < m → between a m text ≡ get_or text a 0 ∷ between (a + 1) m text
-  between_first a lt =
-      let n : m - a ≡ suc (m - (a + 1)) = omega arith in
-      ap (take (m - a)) (drop_more text a 0 (omega arith))
-      ∙ ap (λ k. take k (get_or text a 0 ∷ drop (a + 1) text)) n
-
-  between_cut : (a e : ℕ) → a ≤ e → e ≤ m → between a m text ≡ between a e text ++ between e m text
-  between_cut a e le before =
-      between_is text a m
-      ∙ cut (take m text) a e le
-      ∙ ap (λ p. p ++ drop e (take m text)) (between_is (take m text) a e ∙ ap (drop a) (take-take e m text before) ∙ sym (between_is text a e))
-      ∙ ap (λ r. between a e text ++ r) (sym (between_is text e m))
-
-  pub word_after_blank : (a : ℕ) → a < m → get_or text a 0 ≡ 32 → words (between a m text) ≡ words (between (a + 1) m text)
-  word_after_blank a lt is = ap words (between_first a lt ∙ ap (λ b. b ∷ between (a + 1) m text) is)
-
-  parted_between : (e : ℕ) → (e < m → get_or text e 0 ≡ 32) → parted (between e m text) ≡ true
-  parted_between e ends =
-      elim (cases_lt e m) [
-        | inl lt ↦ ap parted (between_first e lt) ∙ eq-eqb (get_or text e 0) 32 (ends lt)
-        | inr past ↦ ap parted (between_crossed text e m past)
+-- what a search by a test finds
+module _ (n m : ℕ) where
+  pub found_at : (k : ℕ) → cond (ltb n m) (Some n) None ≡ Some k → (k ≡ n) × (n < m)
+  found_at k e =
+      elim (cases_lt n m) [
+        | inl lt ↦ (let f : Some n ≡ Some k = sym (cond-true _ _ _ (lt-ltb n m lt)) ∙ e in cc, lt)
+        | inr le ↦ (let f : None ≡ Some k = sym (cond-false _ _ _ (le-ltb n m le)) ∙ e in cc)
       ]
 
-  word_at : (a e : ℕ) → a < e → e ≤ m → ((k : ℕ) → a ≤ k → k < e → get_or text k 0 ≡ 32 → ⊥) → (e < m → get_or text e 0 ≡ 32) → words (between a m text) ≡ between a e text ∷ words (between e m text)
-  word_at a e lt before none ends =
-      ap words (between_cut a e (omega arith) before)
-      ∙ words_more (between a e text) (between e m text) (some_between text a e (omega arith) lt (omega arith)) (lacks_between text a e (omega arith) 32 (omega arith) none) (parted_between e ends)
+  pub found_none : cond {A = Option ℕ} (ltb n m) (Some n) None ≡ None → m ≤ n
+  found_none e =
+      elim (cases_lt n m) [
+        | inl lt ↦ (let f : Some n ≡ None = sym (cond-true _ _ _ (lt-ltb n m lt)) ∙ e in cc)
+        | inr le ↦ le
+      ]
 
--- the words of a part, once the blanks before a are passed; m is where it ends inside the text
-module _ (text : List ℕ) (rest : Part) (m a : ℕ) (is : m ≡ min rest.end (length text)) (passed : words (between rest.start m text) ≡ words (between a m text)) where
-  to_end : (i : ℕ) → between i m text ≡ between i rest.end text
-  to_end i = ap (λ n. between i n text) is ∙ between_before_end text i rest.end
+pub found_or_end : (n m : ℕ) (r : Option ℕ) → n ≤ m → r ≡ cond (ltb n m) (Some n) None → unwrap_or r m ≡ n
+found_or_end n m r le e =
+    elim (cases_lt n m) [
+      | inl lt ↦ ap (λ o. unwrap_or o m) (e ∙ cond-true _ _ _ (lt-ltb n m lt))
+      | inr past ↦ ap (λ o. unwrap_or o m) (e ∙ cond-false _ _ _ (le-ltb n m past)) ∙ omega arith
+    ]
 
-  pub no_word : m ≤ a → words (bytes text rest) ≡ []
-  no_word past = ap words (sym (to_end rest.start)) ∙ passed ∙ ap words (between_crossed text a m past)
+pub before_within : (x : ℕ) (l : List ℕ) → before x l ≤ length l
+before_within x l = prefix_len-le-length (λ b. not (eqb b x)) l
 
-  pub first_word : rest.start ≤ a → (e : ℕ) → a < e → e ≤ m → ((k : ℕ) → a ≤ k → k < e → get_or text k 0 ≡ 32 → ⊥) → (e < m → get_or text e 0 ≡ 32) → FirstWord text rest (part a e)
-  first_word after e lt before none ends = record {
-    after = after;
-    forward = lt;
-    before = omega arith;
-    within = omega arith;
+-- the line from a on ends at the first LF
+pub first_line : (text : List ℕ) (a n : ℕ) → a < length text → n ≡ before 10 (drop a text) → FirstLine text a (part a (a + n))
+first_line text a n some is = record {
+  starts = refl;
+  forward = omega arith;
+  within = omega (arith, before_within 10 (drop a text), length-drop a text);
+  some = some;
+  first =
+      let m : a + n - a ≡ before 10 (drop a text) = omega arith in
+      lines_first (drop a text) (omega (arith, length-drop a text))
+      ∙ ap (λ k. take k (drop a text) ∷ lines (drop 1 (drop (before 10 (drop a text)) (drop a text)))) (sym m)
+      ∙ ap (λ l. take (a + n - a) (drop a text) ∷ lines l) (
+      drop-drop 1 (before 10 (drop a text)) (drop a text)
+      ∙ drop-drop (before 10 (drop a text) + 1) a text
+      ∙ ap (λ k. drop k text) (omega arith)
+      );
+}
+
+drop_take : (m k : ℕ) (l : List ℕ) → k ≤ m → drop k (take m l) ≡ take (m - k) (drop k l)
+drop_take m k l le = let e : k + (m - k) ≡ m = omega arith in ap (λ j. drop k (take j l)) (sym e) ∙ drop-take k (m - k) l
+
+pub no_word : (text : List ℕ) (rest : Part) → length (bytes text rest) ≤ blanks (bytes text rest) → words (bytes text rest) ≡ []
+no_word text rest all = words_after_blanks (bytes text rest) ∙ ap words (drop_all _ _ all)
+
+-- the word after k blanks ends at the first blank from there on
+module _ (text : List ℕ) (rest : Part) (k n : ℕ) (skips : k ≡ blanks (bytes text rest)) (some : k < length (bytes text rest)) (ends : n ≡ before 32 (drop k (bytes text rest))) where
+  size : length (bytes text rest) ≡ min (rest.end - rest.start) (length text - rest.start)
+  size = length-take (rest.end - rest.start) (drop rest.start text) ∙ ap (min (rest.end - rest.start)) (length-drop rest.start text)
+
+  within : k + n ≤ length (bytes text rest)
+  within = omega (arith, before_within 32 (drop k (bytes text rest)), length-drop k (bytes text rest))
+
+  first_byte : eqb (get_or (bytes text rest) k 32) 32 ≡ false
+  first_byte =
+      not-true _ (ap (λ j. not (eqb (get_or (bytes text rest) j 32) 32)) skips ∙ passes_at_first (λ b. not (eqb b 32)) (bytes text rest) 32 (omega arith))
+
+  word_bytes : take n (drop k (bytes text rest)) ≡ bytes text (part (rest.start + k) (rest.start + k + n))
+  word_bytes =
+      let m : rest.start + k + n - (rest.start + k) ≡ n = omega arith in
+      ap (take n) (drop_take (rest.end - rest.start) k (drop rest.start text) (omega (arith, size)))
+      ∙ take-take n _ (drop k (drop rest.start text)) (omega (arith, size, within))
+      ∙ ap (take n) (drop-drop k rest.start text)
+      ∙ ap (λ j. take j (drop (rest.start + k) text)) (sym m)
+
+  rest_bytes : drop n (drop k (bytes text rest)) ≡ bytes text (part (rest.start + k + n) rest.end)
+  rest_bytes =
+      drop-drop n k (bytes text rest)
+      ∙ drop_take (rest.end - rest.start) (k + n) (drop rest.start text) (omega (arith, size, within))
+      ∙ ap (take (rest.end - rest.start - (k + n))) (drop-drop (k + n) rest.start text)
+      ∙ ap (λ j. take j (drop (rest.start + (k + n)) text)) (omega arith)
+      ∙ ap (λ j. take (rest.end - (rest.start + k + n)) (drop j text)) (omega arith)
+
+  the_first : (0 < n) × (words (drop k (bytes text rest)) ≡ take n (drop k (bytes text rest)) ∷ words (drop n (drop k (bytes text rest))))
+  the_first = let e : k + 0 ≡ k = omega arith in rw ends (words_first (drop k (bytes text rest)) (rw (get_or-drop k (bytes text rest) 0 32, e) first_byte))
+
+  pub first_word : FirstWord text rest (part (rest.start + k) (rest.start + k + n))
+  first_word = record {
+    after = omega arith;
+    forward = omega (arith, the_first.0);
+    before = omega (arith, size, within);
+    within = omega (arith, size, within);
     first =
-        ap words (sym (to_end rest.start))
-        ∙ passed
-        ∙ word_at text m (omega arith) a e lt before none ends
-        ∙ ap (λ r. between a e text ∷ words r) (to_end e);
+        words_after_blanks (bytes text rest)
+        ∙ ap (λ j. words (drop j (bytes text rest))) (sym skips)
+        ∙ the_first.1
+        ∙ ap (λ w. w ∷ words (drop n (drop k (bytes text rest)))) word_bytes
+        ∙ ap (λ l. bytes text (part (rest.start + k) (rest.start + k + n)) ∷ words l) rest_bytes;
   }
-
--- a blank that comes at or after a byte that is none comes after it
-pub blank_after : (text : List ℕ) (a e : ℕ) → a ≤ e → (get_or text a 0 ≡ 32 → ⊥) → get_or text e 0 ≡ 32 → a < e
-blank_after text a e le begins ends = grind arith

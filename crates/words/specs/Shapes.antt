@@ -1,5 +1,6 @@
 -- The shapes of a word: a name, a number. Assumes nothing.
 use Rattle.std.specs.Prelude.{ℕ, ◌+◌, ◌-◌, ◌*◌, Bool, true, false, ◌&&◌, ◌||◌, List, [], ◌∷◌, length, ◌==◌, nat_le, nat_lt}
+use Rattle.std.specs.List.{list_all}
 
 -- whether b is one of the bytes from low to high
 abbrev pub among : ℕ → ℕ → ℕ → Bool
@@ -18,8 +19,7 @@ abbrev pub in_name : ℕ → Bool
 in_name b = is_letter b || (is_digit b || b == 95)
 
 abbrev pub all_in_name : List ℕ → Bool
-all_in_name [] = true
-all_in_name (b ∷ bs) = in_name b && all_in_name bs
+all_in_name w = list_all in_name w
 
 abbrev pub starts_with_letter : List ℕ → Bool
 starts_with_letter [] = false

@@ -9,15 +9,7 @@ pub fn is_name(word: &[u8]) -> bool
     let [first, ..] = word else {
         return false;
     };
-    if !first.is_ascii_alphabetic() || word.len() > 16 {
-        return false;
-    }
-    for b in word {
-        if !in_name(*b) {
-            return false;
-        }
-    }
-    true
+    first.is_ascii_alphabetic() && word.len() <= 16 && word.iter().all(|b| in_name(*b))
 }
 
 /// Whether a byte may stand in a name.

@@ -1,16 +1,12 @@
-use Rattle.std.proofs.Common.{arith}
+use Rattle.std.proofs.Common.{ap, ◌∙◌, arith}
+use Rattle.std.proofs.lemmas.List.{take_rest}
 use Rattle.words.proofs.Places.{first_line, no_line}
+use Rattle.words.proofs.Splitting.{before}
 use Rattle.words.proofs.lines.next_line.Goals as goal
 
 pub returns-then-from-text : goal.returns-then-from-text
 returns-then-from-text c = no_line _ _ c.if-from-text.true
 
-pub returns-else-text-end-ne10 : goal.returns-else-text-end-ne10
-returns-else-text-end-ne10 c =
-    let inv = c.loop-end.invariant in
-    first_line _ _ _ inv.0 c.if-from-text.false inv.1 inv.2 (λ _. c.if-text-end-ne10.false)
-
-pub returns-after-loop-end : goal.returns-after-loop-end
-returns-after-loop-end c =
-    let inv = c.loop-end.invariant in
-    first_line _ _ _ inv.0 c.if-from-text.false inv.1 inv.2 (λ lt. absurd (omega arith))
+pub returns : goal.returns
+returns c =
+    first_line _ _ _ (omega arith) (c.length_to.ensures.value ∙ ap (before 10) (take_rest c.args.text.now c.args.from))

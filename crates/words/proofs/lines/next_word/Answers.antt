@@ -1,31 +1,21 @@
-use Rattle.std.proofs.Common.{◌<◌, ◌∙◌, arith}
-use Rattle.words.proofs.Places.{blank_after, first_word, no_word, word_after_blank}
+use Rattle.std.proofs.Common.{rules, tests, nat_eq, not, arith, drop, sym, ap, ◌∙◌}
+use Rattle.std.proofs.lemmas.Iterator.{YieldsList-from_slice}
+use Rattle.std.proofs.lemmas.Iterator.Search.{position_from_yields_List}
+use Rattle.std.proofs.lemmas.List.{take_rest}
+use Rattle.words.specs.Parts.{bytes}
+use Rattle.words.proofs.Splitting.{before}
+use Rattle.words.proofs.Places.{first_word, no_word, found_none, found_at}
 use Rattle.words.proofs.lines.next_word.Goals as goal
-use Rattle.words.proofs.lines.next_word.Goals.{then-loop-start-test+else-text-start-eq32, else-loop-start-test}
 
-pub loop-start-preserved : goal.loop-start-preserved
-loop-start-preserved c = (
-  omega arith,
-  c.loop-start.invariant.1 ∙ word_after_blank _ _ (omega arith) _ c.loop-start-test.true c.if-text-start-eq32.true,
-)
+pub returns-in_err-blanks : goal.returns-in_err-blanks
+returns-in_err-blanks c =
+    let line = bytes c.args.text.now c.args.rest in
+    let found = position_from_yields_List (λ b. not (nat_eq b 32)) _ _ c.position.result c.position.ensures.ran (YieldsList-from_slice line cc) (λ x b q k. search (rules, tests)) in
+    rw c.from_residual.ensures (no_word c.args.text.now c.args.rest (found_none _ _ (sym found ∙ c.in_err-blanks.was)))
 
-pub returns-then-start-limit : goal.returns-then-start-limit
-returns-then-start-limit c = no_word _ _ _ _ c.min-limit.ensures c.loop-start.invariant.1 c.if-start-limit.true
-
-pub returns-else-text-end-ne32 : goal.returns-else-text-end-ne32
-returns-else-text-end-ne32 c =
-    let blanks = c.loop-start.invariant in
-    let inv = c.loop-end.invariant in
-    let blank = c.if-text-end-ne32.false in
-    let forward : c.loop-start.start < c.loop-end.end =
-    elim c.loop-start-test.branch [
-      | then-loop-start-test+else-text-start-eq32 w ↦ blank_after _ _ _ inv.0 w.if-text-start-eq32.false blank
-      | else-loop-start-test w ↦ omega arith
-    ] in
-    first_word _ _ _ _ c.min-limit.ensures blanks.1 blanks.0 _ forward inv.1 inv.2 (λ _. blank)
-
-pub returns-after-loop-end : goal.returns-after-loop-end
-returns-after-loop-end c =
-    let blanks = c.loop-start.invariant in
-    let inv = c.loop-end.invariant in
-    first_word _ _ _ _ c.min-limit.ensures blanks.1 blanks.0 _ (omega arith) inv.1 inv.2 (λ lt. absurd (omega arith))
+pub returns : goal.returns
+returns c =
+    let line = bytes c.args.text.now c.args.rest in
+    let found = position_from_yields_List (λ b. not (nat_eq b 32)) _ _ c.position.result c.position.ensures.ran (YieldsList-from_slice line cc) (λ x b q k. search (rules, tests)) in
+    let skips = found_at _ _ _ (sym found ∙ c.in_ok-blanks.was) in
+    first_word _ _ _ _ skips.0 (omega arith) (c.length_to.ensures.value ∙ ap (before 32) (take_rest c.of-line.result.now c.in_ok-blanks.blanks ∙ ap (drop c.in_ok-blanks.blanks) c.of-line.ensures))

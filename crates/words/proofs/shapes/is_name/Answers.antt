@@ -1,16 +1,12 @@
-use Rattle.std.proofs.Common.{true, false, sym, ◌∙◌, arith}
-use Rattle.std.proofs.lemmas.List.{at_drop_all}
-use Rattle.words.specs.Shapes.{all_in_name}
-use Rattle.words.proofs.Shaping.{all_in_name_at, is_name_from, is_name_not}
+use Rattle.std.proofs.Common.{rules, tests, sym, ◌∙◌}
+use Rattle.std.proofs.lemmas.Iterator.{YieldsList-from_slice}
+use Rattle.std.proofs.lemmas.Iterator.Search.{all_from_yields_List}
+use Rattle.words.specs.Shapes.{in_name}
+use Rattle.words.proofs.Shaping.{is_name_from}
 use Rattle.words.proofs.shapes.is_name.Goals as goal
 
-pub returns-then-not-in_name : goal.returns-then-not-in_name
-returns-then-not-in_name c =
-    sym (is_name_not c.args.word.now (c.loop-b.invariant ∙ all_in_name_at _ _ c.loop-b-test.true false (sym c.if-not-in_name.ensures)))
-
-pub loop-b-preserved : goal.loop-b-preserved
-loop-b-preserved c = c.loop-b.invariant ∙ all_in_name_at _ _ c.loop-b-test.true true (sym c.if-not-in_name.ensures)
-
-pub returns : goal.returns
-returns c =
-    sym (is_name_from c.args.word.now (sym c.if-not-is_ascii_alphabetic.ensures.value) (c.loop-b.invariant ∙ at_drop_all all_in_name _ _ c.loop-b-test.false) (omega arith))
+pub returns-then-word-le16 : goal.returns-then-word-le16
+returns-then-word-le16 c =
+    let test = c.if-word-le16.true in
+    all_from_yields_List in_name _ _ c.all.result c.all.ensures.ran (YieldsList-from_slice c.args.word.now cc) (λ x b q k. search (rules, tests))
+    ∙ sym (is_name_from c.args.word.now (sym c.is_ascii_alphabetic.ensures.value ∙ test.0) test.1)
