@@ -1,7 +1,8 @@
 //! Reads a job sheet from standard input and prints its clause file, or one line that tells why there is none.
 #![tactic(auto)]
 
-use compile::{Compiled, compile, refusal_line, stop_line};
+use compile::refused::CompileError;
+use compile::{compile, refusal_line};
 use std::io::{Read, Write};
 use std::process::ExitCode;
 
@@ -10,26 +11,20 @@ fn answer(rt: &HostRuntime) -> anyhow::Result<ExitCode> {
     let heap = rt.alloc();
     let mut sheet = Vec::new(heap);
     rt.stdin().read_to_end(&mut sheet)?;
-    match compile(heap, sheet.as_slice())? {
-        Compiled::File(sink) => {
+    match compile(heap, sheet.as_slice()) {
+        Ok(sink) => {
             rt.stdout().write_all(sink.text())?;
             Ok(ExitCode::SUCCESS)
         }
-        Compiled::Stopped(stop) => {
-            rt.print(stop_line(heap, stop)?)?;
+        Err(CompileError::Refused(refused)) => {
+            rt.print(refusal_line(heap, refused)?)?;
             Ok(ExitCode::FAILURE)
         }
-        Compiled::Unwritten(refusal) => {
-            rt.print(refusal_line(heap, refusal)?)?;
-            Ok(ExitCode::FAILURE)
-        }
+        Err(CompileError::NoMemory) => Ok(ExitCode::FAILURE),
     }
 }
 
 // Nothing is printed of a failed read or write, or of want of memory: the status is 1.
 fn main(rt: HostRuntime) -> ExitCode {
-    match answer(&rt) {
-        Ok(status) => status,
-        Err(_) => ExitCode::FAILURE,
-    }
+    answer(&rt).unwrap_or(ExitCode::FAILURE)
 }

@@ -1,1 +1,1 @@
-pub mod Telling
+mod Refusing

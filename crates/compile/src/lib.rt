@@ -1,28 +1,20 @@
 //! From a sheet to its clause file, or to the refusal that users see.
 #![tactic(auto)]
 
-ghost use Rattle.std.specs.Prelude.{◌≡◌, [], ◌∷◌, ◌++◌, IfOk, string_bytes, codes, decimal};
-ghost use Rattle.sink.specs.Views.{text_state, fresh};
-ghost use Rattle.sheet.specs.Refusals.{number, layer};
-ghost use Rattle.job.specs.Refusals.{number as job_number};
-ghost use Rattle.compile.specs.Compiles.{Compiles, refused_line};
+pub mod refused;
 
-use job::refusal::Refusal;
+ghost use Rattle.std.specs.Prelude.{◌≡◌, IfOk, string_bytes};
+ghost use Rattle.sink.specs.Views.{text_state, fresh};
+ghost use Rattle.compile.specs.Compiles.{Compiles};
+ghost use Rattle.compile.specs.Told.{refused_line, numbers};
+
+use refused::{CompileError, Refused};
 use sheet::reader::Sheet;
-use sheet::refusal::Stop;
 use sink::text::TextSink;
 use std::alloc::{AllocError, Global};
 
 /// The bytes that a clause file may have.
 const FILE_BYTES: usize = 65536;
-
-/// What a sheet comes to: its clause file, or why there is none.
-#[derive(Drop)]
-pub enum Compiled {
-    File(TextSink),
-    Stopped(Stop),
-    Unwritten(Refusal),
-}
 
 // An empty file.
 fn new_file(heap: Global) -> Result<TextSink, AllocError>
@@ -32,8 +24,8 @@ fn new_file(heap: Global) -> Result<TextSink, AllocError>
 }
 
 /// Reads a sheet, closes its job and writes it as text.
-pub fn compile(heap: Global, text: &[u8]) -> Result<Compiled, AllocError>
-    ensures { IfOk result (λ c. Compiles text.now c) }
+pub fn compile(heap: Global, text: &[u8]) -> Result<TextSink, CompileError>
+    ensures { Compiles text.now result }
 {
     let Sheet {
         job,
@@ -41,50 +33,18 @@ pub fn compile(heap: Global, text: &[u8]) -> Result<Compiled, AllocError>
         stop,
     } = Sheet::read(heap, text)?;
     if let Some(stop) = stop {
-        return Ok(Compiled::Stopped(stop));
+        return Err(CompileError::Refused(Refused::Sheet(stop)));
     }
     let closed = job.close();
     let writer = closed.writer(heap)?;
     let mut sink = new_file(heap)?;
-    match writer.write(&mut sink) {
-        Ok(_) => Ok(Compiled::File(sink)),
-        Err(refusal) => Ok(Compiled::Unwritten(refusal)),
-    }
+    writer.write(&mut sink)?;
+    Ok(sink)
 }
 
-// A text with a blank and a number after it.
-fn with_number(heap: Global, text: &str, number: usize) -> Result<String, AllocError>
-    ensures { IfOk result (λ s. string_bytes s ≡ text.now ++ (codes " " ++ decimal number)) }
+/// The line that tells a refusal.
+pub fn refusal_line(heap: Global, refused: Refused) -> Result<String, AllocError>
+    ensures { IfOk result (λ s. string_bytes s ≡ refused_line (numbers refused)) }
 {
-    format!(in heap; "{text} {number}")
-}
-
-// The line `refused` with the numbers after it.
-fn refused(heap: Global, numbers: &[usize]) -> Result<String, AllocError>
-    ensures { IfOk result (λ s. string_bytes s ≡ refused_line numbers.now) }
-{
-    let mut told = String::from_str(heap, "refused")?;
-    for number in numbers {
-        told = with_number(heap, told.as_str(), *number)?;
-    }
-    told.push_str("\n")?;
-    Ok(told)
-}
-
-/// The line that tells a refusal of a sheet: number, layer, line and word.
-pub fn stop_line(heap: Global, stop: Stop) -> Result<String, AllocError>
-    ensures { IfOk result (λ s. string_bytes s ≡ refused_line (number stop.reason ∷ layer stop.reason ∷ stop.line ∷ stop.word ∷ [])) }
-{
-    let number = stop.reason.number() as usize;
-    let layer = stop.reason.layer() as usize;
-    let told = refused(heap, &[number, layer, stop.line, stop.word])?;
-    Ok(told)
-}
-
-/// The line that tells a refusal of the writing: its number alone.
-pub fn refusal_line(heap: Global, refusal: Refusal) -> Result<String, AllocError>
-    ensures { IfOk result (λ s. string_bytes s ≡ refused_line (job_number refusal ∷ [])) }
-{
-    let told = refused(heap, &[refusal.number() as usize])?;
-    Ok(told)
+    format!(in heap; "{refused}\n")
 }

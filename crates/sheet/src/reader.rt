@@ -7,7 +7,7 @@ use words::parts::Part;
 
 /// What the next line may be: the first heading; variable lines up to a wordless one (the gap); the second
 /// heading after the gap; rule lines.
-#[derive(Clone, Copy, Debug)]
+#[derive(Clone, Copy, PartialEq, Eq, Debug)]
 pub enum Section {
     Start,
     Variables,

@@ -5,7 +5,7 @@ ghost use Rattle.sheet.specs.Refusals.{number, layer};
 use job::refusal::Refusal;
 
 /// What is wrong with a line of a sheet, or with the sheet itself.
-#[derive(Clone, Copy, Debug)]
+#[derive(Clone, Copy, PartialEq, Eq, Debug)]
 pub enum Reason {
     TooLong,
     BadVariable,
@@ -44,7 +44,7 @@ impl Reason {
 }
 
 /// Where a sheet was refused: lines and words are counted from 1.
-#[derive(Clone, Copy, Debug)]
+#[derive(Clone, Copy, PartialEq, Eq, Debug)]
 pub struct Stop {
     pub reason: Reason,
     pub line: usize,

@@ -1,25 +1,20 @@
 //! Sheets, and what users see of them.
-use compile::{Compiled, compile, refusal_line, stop_line};
+use compile::refused::CompileError;
+use compile::{compile, refusal_line};
 use std::alloc::{AllocError, Global};
 use std::process::Abort;
 use std::test::Fail;
 
 // The sheet comes to the given text.
 fn tells(rt: &impl Abort, heap: Global, sheet: &[u8], expected: &[u8]) -> Result<(), Fail> {
-    match compile(heap, sheet)? {
-        Compiled::File(sink) => {
-            assert!(rt; sink.text() == expected);
-            Ok(())
-        },
-        Compiled::Stopped(stop) => {
-            assert!(rt; stop_line(heap, stop)?.as_bytes() == expected);
-            Ok(())
-        },
-        Compiled::Unwritten(refusal) => {
-            assert!(rt; refusal_line(heap, refusal)?.as_bytes() == expected);
-            Ok(())
-        },
+    match compile(heap, sheet) {
+        Ok(sink) => assert!(rt; sink.text() == expected),
+        Err(CompileError::Refused(refused)) => {
+            assert!(rt; refusal_line(heap, refused)?.as_bytes() == expected);
+        }
+        Err(CompileError::NoMemory) => return Err(AllocError.into()),
     }
+    Ok(())
 }
 
 // The same for a sheet whose second line is the given one.
