@@ -9,6 +9,7 @@ ghost use Rattle.decode.specs.Bits.{bit_at};
 use crate::bits::literal_truth;
 use kinds::kinds::Kinds;
 use kinds::reading::range_of;
+use kinds::row::Row;
 use order::bound::Bound;
 use order::variables::Variables;
 use rows::storage::Rows;
@@ -45,7 +46,11 @@ pub fn first_unmet<K: Kinds>(rows: &Rows, values: &[u8]) -> Option<usize>
     ensures { result ≡ first_failing (λ p. (K.Kinds.meaning (posted (rows_of rows.now) p).code).meets (posted (rows_of rows.now) p).items (valued values.now)) 0 (length (rows_of rows.now)) }
 {
     for place in 0..rows.len() {
-        if !K::met(rows.code(place), rows.items(place), values) {
+        let row = Row {
+            code: rows.code(place),
+            items: rows.items(place),
+        };
+        if !K::met(row, values) {
             return Some(place);
         }
     }

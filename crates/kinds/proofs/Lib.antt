@@ -1,4 +1,3 @@
 pub mod Ranging
 pub mod Rows
-pub mod ReadSteps
 pub mod FamilyFacts

@@ -1,5 +1,6 @@
 -- Items of a row, ties between bounds, and pairings. Assumes nothing.
 use Rattle.std.specs.Prelude.{ℕ, Bool, true, false, ◌&&◌, ◌||◌, List, [], ◌∷◌, length, ◌==◌, slice_index_or}
+use Rattle.std.specs.List.{list_all}
 use Rattle.order.specs.declared.bound.Bound.{Bound}
 use Rattle.kinds.specs.declared.item.Item.{Item}
 use Rattle.kinds.specs.declared.item.Item.TheVariants.{Variable, Bounded}
@@ -24,8 +25,7 @@ is_variable (Variable x) = true
 is_variable (Bounded b) = false
 
 abbrev pub variables_only : List Item → Bool
-variables_only [] = true
-variables_only (i ∷ items) = is_variable i && variables_only items
+variables_only items = list_all is_variable items
 
 -- n items, each a variable
 abbrev pub plain : ℕ → List Item → Bool

@@ -1,6 +1,6 @@
 //! What stands in a row, and ties between bounds.
 ghost use Rattle.std.specs.Prelude.{◌≡◌};
-ghost use Rattle.kinds.specs.Items.{tie};
+ghost use Rattle.kinds.specs.Items.{variable_of, tie};
 
 use order::bound::Bound;
 
@@ -9,6 +9,18 @@ use order::bound::Bound;
 pub enum Item {
     Variable(u16),
     Bounded(Bound),
+}
+
+impl Item {
+    /// The variable that the item names.
+    pub fn variable(self) -> u16
+        ensures { result ≡ variable_of self }
+    {
+        match self {
+            Item::Variable(x) => x,
+            Item::Bounded(b) => b.variable,
+        }
+    }
 }
 
 /// Two bounds that are said to be equally true.

@@ -17,17 +17,11 @@ pub trait Kind {
     /// The length of the longest clause.
     const LONGEST: usize;
 
-    ghost code: { ℕ };
+    ghost CODE: { ℕ };
+
+    ghost LONGEST: { ℕ };
 
     ghost meaning: { Meaning };
-
-    /// The code, as a promise can name it.
-    fn own_code() -> u8
-        ensures { result ≡ code };
-
-    /// The length of the longest clause, as a promise can name it.
-    fn longest_clause() -> usize
-        ensures { result ≡ meaning.longest };
 
     /// Whether number and form of the items are right.
     fn formed(items: &[Item]) -> bool
@@ -52,6 +46,8 @@ pub trait Kind {
     /// Whether a row is spent under the ties that stand: they say all that it says.
     fn spent<T: Standing>(items: &[Item], ranges: &[Range], ties: &T) -> bool
         ensures { result ≡ meaning.spends items.now ranges.now (T.Standing.stands ties.now) };
+
+    ghost longest_is: { LONGEST ≡ meaning.longest };
 
     ghost lawful: { Lawful meaning };
 }

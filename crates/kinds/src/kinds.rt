@@ -5,9 +5,9 @@ ghost use Rattle.kinds.specs.Meaning.{Meaning, Lawful, valued, no_kind};
 ghost use Rattle.std.proofs.Common.{rules};
 ghost use Rattle.kinds.specs.BothKindsLemmas.{either};
 
-use crate::item::Item;
 use crate::kind::Kind;
 use crate::listen::{Listener, Standing};
+use crate::row::Row;
 use order::range::Range;
 use order::visit::Visitor;
 
@@ -26,28 +26,28 @@ pub trait Kinds {
         ensures { result ≡ (meaning code).longest };
 
     /// Whether number and form of the items are right.
-    fn formed(code: u8, items: &[Item]) -> bool
-        ensures { result ≡ (meaning code).formed items.now };
+    fn formed(row: Row<'_>) -> bool
+        ensures { result ≡ (meaning row.entry.code).formed row.entry.items.now };
 
     /// Whether the ranges of the items' variables fit the kind.
-    fn fits(code: u8, items: &[Item], ranges: &[Range]) -> bool
-        ensures { result ≡ (meaning code).fits items.now ranges.now };
+    fn fits(row: Row<'_>, ranges: &[Range]) -> bool
+        ensures { result ≡ (meaning row.entry.code).fits row.entry.items.now ranges.now };
 
     /// Whether the values meet a row.
-    fn met(code: u8, items: &[Item], values: &[u8]) -> bool
-        ensures { result ≡ (meaning code).meets items.now (valued values.now) };
+    fn met(row: Row<'_>, values: &[u8]) -> bool
+        ensures { result ≡ (meaning row.entry.code).meets row.entry.items.now (valued values.now) };
 
     /// Shows the visitor a row's clauses, in their order.
-    fn visit_clauses<V: Visitor>(code: u8, items: &[Item], ranges: &[Range], visitor: &mut V)
-        ensures { After V.Visitor.step visitor.old ((meaning code).clauses items.now ranges.now) visitor.new };
+    fn visit_clauses<V: Visitor>(row: Row<'_>, ranges: &[Range], visitor: &mut V)
+        ensures { After V.Visitor.step visitor.old ((meaning row.entry.code).clauses row.entry.items.now ranges.now) visitor.new };
 
     /// Shows the listener a row's pairings, in their order.
-    fn tell_pairings<L: Listener>(code: u8, items: &[Item], ranges: &[Range], listener: &mut L)
-        ensures { After L.Listener.hears listener.old ((meaning code).pairings items.now ranges.now) listener.new };
+    fn tell_pairings<L: Listener>(row: Row<'_>, ranges: &[Range], listener: &mut L)
+        ensures { After L.Listener.hears listener.old ((meaning row.entry.code).pairings row.entry.items.now ranges.now) listener.new };
 
     /// Whether a row is spent under the ties that stand.
-    fn spent<T: Standing>(code: u8, items: &[Item], ranges: &[Range], ties: &T) -> bool
-        ensures { result ≡ (meaning code).spends items.now ranges.now (T.Standing.stands ties.now) };
+    fn spent<T: Standing>(row: Row<'_>, ranges: &[Range], ties: &T) -> bool
+        ensures { result ≡ (meaning row.entry.code).spends row.entry.items.now ranges.now (T.Standing.stands ties.now) };
 
     ghost lawful: { (code : ℕ) → Lawful (meaning code) };
 }
@@ -70,28 +70,23 @@ impl Kinds for End {
         0
     }
 
-    fn formed(_code: u8, _items: &[Item]) -> bool {
+    fn formed(_row: Row<'_>) -> bool {
         false
     }
 
-    fn fits(_code: u8, _items: &[Item], _ranges: &[Range]) -> bool {
+    fn fits(_row: Row<'_>, _ranges: &[Range]) -> bool {
         false
     }
 
-    fn met(_code: u8, _items: &[Item], _values: &[u8]) -> bool {
+    fn met(_row: Row<'_>, _values: &[u8]) -> bool {
         true
     }
 
-    fn visit_clauses<V: Visitor>(_code: u8, _items: &[Item], _ranges: &[Range], _visitor: &mut V) {}
+    fn visit_clauses<V: Visitor>(_row: Row<'_>, _ranges: &[Range], _visitor: &mut V) {}
 
-    fn tell_pairings<L: Listener>(
-        _code: u8,
-        _items: &[Item],
-        _ranges: &[Range],
-        _listener: &mut L,
-    ) {}
+    fn tell_pairings<L: Listener>(_row: Row<'_>, _ranges: &[Range], _listener: &mut L) {}
 
-    fn spent<T: Standing>(_code: u8, _items: &[Item], _ranges: &[Range], _ties: &T) -> bool {
+    fn spent<T: Standing>(_row: Row<'_>, _ranges: &[Range], _ties: &T) -> bool {
         false
     }
 }
@@ -104,14 +99,14 @@ pub struct Both<A, B> {
 }
 
 impl<A: Kind, B: Kinds> Kinds for Both<A, B> {
-    ghost known = { λ code. (if nat_eq code A.Kind.code then true else B.Kinds.known code) };
+    ghost known = { λ code. (if nat_eq code A.Kind.CODE then true else B.Kinds.known code) };
 
-    ghost meaning = { λ code. (if nat_eq code A.Kind.code then A.Kind.meaning else B.Kinds.meaning code) };
+    ghost meaning = { λ code. (if nat_eq code A.Kind.CODE then A.Kind.meaning else B.Kinds.meaning code) };
 
-    ghost lawful = { λ code. either (code == A.Kind.code) A.Kind.meaning (B.Kinds.meaning code) A.Kind.lawful (B.Kinds.lawful code) };
+    ghost lawful = { λ code. either (code == A.Kind.CODE) A.Kind.meaning (B.Kinds.meaning code) A.Kind.lawful (B.Kinds.lawful code) };
 
     fn knows(code: u8) -> bool {
-        if code == A::own_code() {
+        if code == A::CODE {
             true
         } else {
             B::knows(code)
@@ -119,58 +114,58 @@ impl<A: Kind, B: Kinds> Kinds for Both<A, B> {
     }
 
     fn longest_clause(code: u8) -> usize {
-        if code == A::own_code() {
-            A::longest_clause()
+        if code == A::CODE {
+            A::LONGEST
         } else {
             B::longest_clause(code)
         }
     }
 
-    fn formed(code: u8, items: &[Item]) -> bool {
-        if code == A::own_code() {
-            A::formed(items)
+    fn formed(row: Row<'_>) -> bool {
+        if row.code == A::CODE {
+            A::formed(row.items)
         } else {
-            B::formed(code, items)
+            B::formed(row)
         }
     }
 
-    fn fits(code: u8, items: &[Item], ranges: &[Range]) -> bool {
-        if code == A::own_code() {
-            A::fits(items, ranges)
+    fn fits(row: Row<'_>, ranges: &[Range]) -> bool {
+        if row.code == A::CODE {
+            A::fits(row.items, ranges)
         } else {
-            B::fits(code, items, ranges)
+            B::fits(row, ranges)
         }
     }
 
-    fn met(code: u8, items: &[Item], values: &[u8]) -> bool {
-        if code == A::own_code() {
-            A::met(items, values)
+    fn met(row: Row<'_>, values: &[u8]) -> bool {
+        if row.code == A::CODE {
+            A::met(row.items, values)
         } else {
-            B::met(code, items, values)
+            B::met(row, values)
         }
     }
 
-    fn visit_clauses<V: Visitor>(code: u8, items: &[Item], ranges: &[Range], visitor: &mut V) {
-        if code == A::own_code() {
-            A::visit_clauses(items, ranges, visitor)
+    fn visit_clauses<V: Visitor>(row: Row<'_>, ranges: &[Range], visitor: &mut V) {
+        if row.code == A::CODE {
+            A::visit_clauses(row.items, ranges, visitor)
         } else {
-            B::visit_clauses(code, items, ranges, visitor)
+            B::visit_clauses(row, ranges, visitor)
         }
     }
 
-    fn tell_pairings<L: Listener>(code: u8, items: &[Item], ranges: &[Range], listener: &mut L) {
-        if code == A::own_code() {
-            A::tell_pairings(items, ranges, listener)
+    fn tell_pairings<L: Listener>(row: Row<'_>, ranges: &[Range], listener: &mut L) {
+        if row.code == A::CODE {
+            A::tell_pairings(row.items, ranges, listener)
         } else {
-            B::tell_pairings(code, items, ranges, listener)
+            B::tell_pairings(row, ranges, listener)
         }
     }
 
-    fn spent<T: Standing>(code: u8, items: &[Item], ranges: &[Range], ties: &T) -> bool {
-        if code == A::own_code() {
-            A::spent(items, ranges, ties)
+    fn spent<T: Standing>(row: Row<'_>, ranges: &[Range], ties: &T) -> bool {
+        if row.code == A::CODE {
+            A::spent(row.items, ranges, ties)
         } else {
-            B::spent(code, items, ranges, ties)
+            B::spent(row, ranges, ties)
         }
     }
 }

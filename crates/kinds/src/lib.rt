@@ -6,3 +6,4 @@ pub mod kind;
 pub mod kinds;
 pub mod listen;
 pub mod reading;
+pub mod row;

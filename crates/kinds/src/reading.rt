@@ -11,11 +11,7 @@ use order::range::Range;
 pub fn variable_at(items: &[Item], k: usize) -> u16
     ensures { result ≡ var items.now k }
 {
-    match items.get(k) {
-        Some(Item::Variable(x)) => *x,
-        Some(Item::Bounded(b)) => b.variable,
-        None => 0,
-    }
+    items.get(k).map_or(0, |item| item.variable())
 }
 
 /// The range of the variable; a variable that is not there has the value 0 alone.
@@ -23,32 +19,24 @@ pub fn range_of(ranges: &[Range], variable: u16) -> Range
     ensures low { result.low ≡ low ranges.now variable }
     ensures high { result.high ≡ high ranges.now variable }
 {
-    match ranges.get(variable as usize) {
-        Some(range) => *range,
-        None => Range::new(0, 0).unwrap(),
-    }
+    ranges
+        .get(usize::from(variable))
+        .copied()
+        .unwrap_or(Range::new(0, 0).unwrap())
 }
 
 /// The value of the variable, or 0 where it has none.
 pub fn value_of(values: &[u8], variable: u16) -> u8
     ensures { result ≡ valued values.now variable }
 {
-    match values.get(variable as usize) {
-        Some(value) => *value,
-        None => 0,
-    }
+    values.get(usize::from(variable)).copied().unwrap_or(0)
 }
 
 // Whether each item is a variable.
 fn all_variables(items: &[Item]) -> bool
     ensures { result ≡ variables_only items.now }
 {
-    for item in items {
-        if let Item::Bounded(_) = item {
-            return false;
-        }
-    }
-    true
+    items.iter().all(|item| matches!(item, Item::Variable(_)))
 }
 
 /// Whether there are `count` items, each a variable.

@@ -1,4 +1,5 @@
 //! The kind of row that orders two variables.
+ghost use Rattle.std.specs.Prelude.{refl};
 ghost use Rattle.linear.specs.Leq.{leq};
 ghost use Rattle.linear.specs.LeqLaws.{leq_lawful};
 
@@ -18,19 +19,15 @@ impl Kind for Leq {
 
     const LONGEST: usize = 2;
 
-    ghost code = { 2 };
+    ghost CODE = { 2 };
+
+    ghost LONGEST = { 2 };
 
     ghost meaning = { leq };
 
+    ghost longest_is = { refl };
+
     ghost lawful = { leq_lawful };
-
-    fn own_code() -> u8 {
-        Self::CODE
-    }
-
-    fn longest_clause() -> usize {
-        Self::LONGEST
-    }
 
     fn formed(items: &[Item]) -> bool {
         reading::only_variables(items, 2)

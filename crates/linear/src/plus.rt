@@ -1,5 +1,5 @@
 //! The kind of row that adds two variables.
-ghost use Rattle.std.specs.Prelude.{◌≡◌, ◌+◌, ◌≤◌, ◌&&◌, [], ◌∷◌};
+ghost use Rattle.std.specs.Prelude.{◌≡◌, ◌+◌, ◌≤◌, ◌&&◌, [], ◌∷◌, refl};
 ghost use Rattle.order.specs.Bounds.{reaches, misses};
 ghost use Rattle.order.specs.Visits.{After};
 ghost use Rattle.kinds.specs.Families.{all_stand};
@@ -138,19 +138,15 @@ impl Kind for Plus {
 
     const LONGEST: usize = 3;
 
-    ghost code = { 1 };
+    ghost CODE = { 1 };
+
+    ghost LONGEST = { 3 };
 
     ghost meaning = { plus };
 
+    ghost longest_is = { refl };
+
     ghost lawful = { plus_lawful };
-
-    fn own_code() -> u8 {
-        Self::CODE
-    }
-
-    fn longest_clause() -> usize {
-        Self::LONGEST
-    }
 
     fn formed(items: &[Item]) -> bool {
         reading::only_variables(items, 3)

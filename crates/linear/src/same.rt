@@ -1,5 +1,5 @@
 //! The kind of row that equates two variables.
-ghost use Rattle.std.specs.Prelude.{◌≡◌};
+ghost use Rattle.std.specs.Prelude.{◌≡◌, refl};
 ghost use Rattle.order.specs.Bounds.{reaches};
 ghost use Rattle.kinds.specs.Items.{tie};
 ghost use Rattle.linear.specs.Same.{same, start, end};
@@ -41,19 +41,15 @@ impl Kind for Same {
 
     const LONGEST: usize = 2;
 
-    ghost code = { 3 };
+    ghost CODE = { 3 };
+
+    ghost LONGEST = { 2 };
 
     ghost meaning = { same };
 
+    ghost longest_is = { refl };
+
     ghost lawful = { same_lawful };
-
-    fn own_code() -> u8 {
-        Self::CODE
-    }
-
-    fn longest_clause() -> usize {
-        Self::LONGEST
-    }
 
     fn formed(items: &[Item]) -> bool {
         reading::only_variables(items, 2)

@@ -1,5 +1,5 @@
 //! Bounds of which at least one holds.
-ghost use Rattle.std.specs.Prelude.{◌≡◌};
+ghost use Rattle.std.specs.Prelude.{◌≡◌, refl};
 ghost use Rattle.order.specs.Bounds.{holds};
 ghost use Rattle.kinds.specs.Meaning.{valued};
 ghost use Rattle.logical.specs.Any.{at_least_one, bound_of, bounds_only};
@@ -58,19 +58,15 @@ impl Kind for Any {
 
     const LONGEST: usize = 64;
 
-    ghost code = { 7 };
+    ghost CODE = { 7 };
+
+    ghost LONGEST = { 64 };
 
     ghost meaning = { at_least_one };
 
+    ghost longest_is = { refl };
+
     ghost lawful = { any_lawful };
-
-    fn own_code() -> u8 {
-        Self::CODE
-    }
-
-    fn longest_clause() -> usize {
-        Self::LONGEST
-    }
 
     fn formed(items: &[Item]) -> bool {
         1 <= items.len() && items.len() <= MOST && only_bounds(items)

@@ -1,5 +1,5 @@
 //! Variables that all differ.
-ghost use Rattle.std.specs.Prelude.{◌≡◌, ◌<◌, length};
+ghost use Rattle.std.specs.Prelude.{◌≡◌, ◌<◌, length, refl};
 ghost use Rattle.order.specs.Visits.{After};
 ghost use Rattle.kinds.specs.Meaning.{valued};
 ghost use Rattle.logical.specs.Distinct.{distinct, differ_later, apart_later, excludes_pair, excludes_others};
@@ -67,19 +67,15 @@ impl Kind for Distinct {
 
     const LONGEST: usize = 4;
 
-    ghost code = { 8 };
+    ghost CODE = { 8 };
+
+    ghost LONGEST = { 4 };
 
     ghost meaning = { distinct };
 
+    ghost longest_is = { refl };
+
     ghost lawful = { distinct_lawful };
-
-    fn own_code() -> u8 {
-        Self::CODE
-    }
-
-    fn longest_clause() -> usize {
-        Self::LONGEST
-    }
 
     fn formed(items: &[Item]) -> bool {
         2 <= items.len() && items.len() <= 32 && reading::only_variables(items, items.len())

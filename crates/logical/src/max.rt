@@ -1,5 +1,5 @@
 //! The greater of two variables.
-ghost use Rattle.std.specs.Prelude.{false};
+ghost use Rattle.std.specs.Prelude.{false, refl};
 ghost use Rattle.logical.specs.Extreme.{extreme};
 ghost use Rattle.logical.specs.ExtremeLaws.{extreme_lawful};
 
@@ -19,19 +19,15 @@ impl Kind for Max {
 
     const LONGEST: usize = 3;
 
-    ghost code = { 5 };
+    ghost CODE = { 5 };
+
+    ghost LONGEST = { 3 };
 
     ghost meaning = { extreme false };
 
+    ghost longest_is = { refl };
+
     ghost lawful = { extreme_lawful false };
-
-    fn own_code() -> u8 {
-        Self::CODE
-    }
-
-    fn longest_clause() -> usize {
-        Self::LONGEST
-    }
 
     fn formed(items: &[Item]) -> bool {
         reading::only_variables(items, 3)

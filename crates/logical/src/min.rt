@@ -1,5 +1,5 @@
 //! The lesser of two variables.
-ghost use Rattle.std.specs.Prelude.{true};
+ghost use Rattle.std.specs.Prelude.{true, refl};
 ghost use Rattle.logical.specs.Extreme.{extreme};
 ghost use Rattle.logical.specs.ExtremeLaws.{extreme_lawful};
 
@@ -19,19 +19,15 @@ impl Kind for Min {
 
     const LONGEST: usize = 3;
 
-    ghost code = { 6 };
+    ghost CODE = { 6 };
+
+    ghost LONGEST = { 3 };
 
     ghost meaning = { extreme true };
 
+    ghost longest_is = { refl };
+
     ghost lawful = { extreme_lawful true };
-
-    fn own_code() -> u8 {
-        Self::CODE
-    }
-
-    fn longest_clause() -> usize {
-        Self::LONGEST
-    }
 
     fn formed(items: &[Item]) -> bool {
         reading::only_variables(items, 3)

@@ -1,5 +1,5 @@
 //! Two variables that differ.
-ghost use Rattle.std.specs.Prelude.{◌≡◌, ◌<◌, ◌≤◌, [], ◌∷◌};
+ghost use Rattle.std.specs.Prelude.{◌≡◌, ◌<◌, ◌≤◌, [], ◌∷◌, refl};
 ghost use Rattle.order.specs.Visits.{After};
 ghost use Rattle.logical.specs.Neq.{neq, shared_from, shared_past, not_both, apart, skips, settled_in, excludes_each, alike, mirrored, apart_pairings};
 ghost use Rattle.logical.specs.NeqLaws.{neq_lawful};
@@ -120,19 +120,15 @@ impl Kind for Neq {
 
     const LONGEST: usize = 4;
 
-    ghost code = { 4 };
+    ghost CODE = { 4 };
+
+    ghost LONGEST = { 4 };
 
     ghost meaning = { neq };
 
+    ghost longest_is = { refl };
+
     ghost lawful = { neq_lawful };
-
-    fn own_code() -> u8 {
-        Self::CODE
-    }
-
-    fn longest_clause() -> usize {
-        Self::LONGEST
-    }
 
     fn formed(items: &[Item]) -> bool {
         reading::only_variables(items, 2)

@@ -1,5 +1,5 @@
 //! A variable that says whether one variable is at most another.
-ghost use Rattle.std.specs.Prelude.{◌<◌};
+ghost use Rattle.std.specs.Prelude.{◌<◌, refl};
 ghost use Rattle.order.specs.Visits.{After};
 ghost use Rattle.logical.specs.When.{when, upheld, denied, all_upheld, all_denied};
 ghost use Rattle.logical.specs.WhenLaws.{when_lawful};
@@ -65,19 +65,15 @@ impl Kind for When {
 
     const LONGEST: usize = 3;
 
-    ghost code = { 9 };
+    ghost CODE = { 9 };
+
+    ghost LONGEST = { 3 };
 
     ghost meaning = { when };
 
+    ghost longest_is = { refl };
+
     ghost lawful = { when_lawful };
-
-    fn own_code() -> u8 {
-        Self::CODE
-    }
-
-    fn longest_clause() -> usize {
-        Self::LONGEST
-    }
 
     fn formed(items: &[Item]) -> bool {
         reading::only_variables(items, 3)

@@ -14,6 +14,7 @@ use crate::heed::heed;
 use crate::listing::{Clauses, Pairings};
 use crate::moved::part_moved;
 use kinds::kinds::Kinds;
+use kinds::row::Row;
 use order::variables::Variables;
 use rows::storage::Rows;
 use std::alloc::AllocError;
@@ -36,10 +37,12 @@ fn list_part<K: Kinds>(
     if place < count {
         variables.visit_order(place, clauses);
     } else {
-        let code = rows.code(place - count);
-        let items = rows.items(place - count);
-        K::visit_clauses(code, items, variables.ranges(), clauses);
-        K::tell_pairings(code, items, variables.ranges(), pairings);
+        let row = Row {
+            code: rows.code(place - count),
+            items: rows.items(place - count),
+        };
+        K::visit_clauses(row, variables.ranges(), clauses);
+        K::tell_pairings(row, variables.ranges(), pairings);
     }
     if clauses.lacking || pairings.lacking {
         return Err(AllocError);

@@ -25,8 +25,8 @@ returns g c =
           }
       | else-place-count w ↦
           let le : length rs ≤ place = omega (arith, w.if-place-count.false, c.len-count.ensures) in
-          let code_is = w.code-code.ensures ∙ ap (λ n. (posted ps (place - n)).code) c.len-count.ensures in
-          let items-are = w.items-items.ensures ∙ ap (λ n. (posted ps (place - n)).items) c.len-count.ensures in
+          let code_is = w.code.ensures ∙ ap (λ n. (posted ps (place - n)).code) c.len-count.ensures in
+          let items-are = w.items.ensures ∙ ap (λ n. (posted ps (place - n)).items) c.len-count.ensures in
           record {
             clauses = ap (λ s. lists_of s.lists) w.clauses-is ∙ row_clauses m rs ps place le _ _ _ code_is items-are w.ranges-else-place-count.ensures _ _ w.visit_clauses.ensures c.restart.ensures.none (sym (ap (λ s. s.lacking) w.clauses-is) ∙ full);
             pairings = subst (λ s. HoldsPairings s (part_pairings m rs ps place)) (sym w.pairings-is) (row_pairings m rs ps place le _ _ _ code_is items-are w.ranges-else-place-count-2.ensures _ _ w.tell_pairings.ensures c.restart-2.ensures.premises c.restart-2.ensures.gives (sym (ap (λ s. s.lacking) w.pairings-is) ∙ heard));

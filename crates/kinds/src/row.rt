@@ -1,0 +1,9 @@
+//! A row as the kinds see it.
+use crate::item::Item;
+
+/// What a row says: the code of its kind, and its items.
+#[derive(Clone, Copy, Debug)]
+pub struct Row<'a> {
+    pub code: u8,
+    pub items: &'a [Item],
+}
