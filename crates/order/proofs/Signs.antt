@@ -3,6 +3,11 @@ use Rattle.std.proofs.Common.{◌≡◌, ℕ, Bool, true, false, not, ◌⊎◌,
 use Rattle.std.proofs.lemmas.Bool.{both_ways, cases_Bool}
 use Rattle.std.proofs.lemmas.Bool.Decides.{nat_tests}
 use Rattle.order.specs.Literals.{Literal, False, True, Bit, Not, opposite, same, truth}
+use Rattle.order.specs.contracts.literal.LiteralPartialEq.TheImpl.{eq-value}
+
+-- what `==` tests
+pub eq_same : (x y : Literal) → eq-value.it x y ≡ same x y
+eq_same x y = grind (arith, nat_tests)
 
 pub same_itself : (x : Literal) → same x x ≡ true
 same_itself x = grind (arith, nat_tests)

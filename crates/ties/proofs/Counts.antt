@@ -1,11 +1,10 @@
 -- Counting the bits that are their own root. Assumes nothing.
-use Rattle.std.proofs.Common.{◌≡◌, ℕ, zero, suc, ◌+◌, ◌<◌, ◌≤◌, Bool, true, false, cond, List, length, get_or, sym, refl, ap, ◌∙◌, inl, inr, add-one, arith}
-use Rattle.std.proofs.lemmas.List.{get_or_default}
+use Rattle.std.proofs.Common.{◌≡◌, ℕ, zero, suc, ◌+◌, ◌<◌, ◌≤◌, Bool, true, false, cond, List, length, refl, ap, ◌∙◌, inl, inr, arith}
+use Rattle.std.proofs.lemmas.List.Sums.{length-filter, sum_by-cons}
+use Rattle.std.specs.List.{filter, count_by, range_with_len}
 use Rattle.std.proofs.lemmas.Bool.{cases_eq}
 use Rattle.order.specs.declared.literal.Literal.{Literal}
-use Rattle.order.specs.declared.literal.Literal.TheVariants.{Bit}
-use Rattle.order.specs.Literals.{same}
-use Rattle.ties.specs.Roots.{root_at, count_below, own, free_to}
+use Rattle.ties.specs.Roots.{root_at, count_below, own, free, free_to}
 
 abbrev pub one_if : Bool → ℕ
 one_if b = cond b 1 0
@@ -37,9 +36,17 @@ free_less f g zero n some le was is other = absurd (omega arith)
 free_less f g (suc m) n some le was is other =
     count_less (λ k. own f (suc k)) (λ k. own g (suc k)) m n (omega arith) was is (λ k lt ne. other (suc k) (omega arith) (λ e. ne (omega arith)))
 
--- a turn of the loop that counts
-pub free_more : (ys rs : List Literal) (k : ℕ) (d : Literal) (t : Bool) → ys ≡ rs → k < length ys → t ≡ same (get_or ys k d) (Bit (k + 1)) → free_to (root_at rs) (k + 1) ≡ one_if t + free_to (root_at rs) k
-free_more ys rs k d t e lt is =
-    let at : get_or rs k (Bit (suc k)) ≡ get_or ys k d = sym (ap (λ l. get_or l k (Bit (suc k))) e) ∙ get_or_default ys k (Bit (suc k)) d lt in
-    let test : own (root_at rs) (suc k) ≡ t = ap (λ x. same x (Bit (suc k))) at ∙ ap (λ n. same (get_or ys k d) (Bit n)) (sym (add-one k)) ∙ sym is in
-    rw add-one (ap (λ b. one_if b + free_to (root_at rs) k) test)
+-- the numbers of a stretch that pass, and those before it
+count_stretch : (p : ℕ → Bool) (m n a : ℕ) → a ≡ suc m → count_by p (range_with_len a n) + count_below (λ k. p (suc k)) m ≡ count_below (λ k. p (suc k)) (m + n)
+count_stretch p m zero a e = let none : m ≡ m + 0 = omega arith in omega (arith, ap (count_below (λ k. p (suc k))) none)
+count_stretch p m (suc n) a e =
+    let head = sum_by-cons (λ k. one_if (p k)) a (range_with_len (a + 1) n) in
+    let here : one_if (p a) ≡ one_if (p (suc m)) = ap (λ k. one_if (p k)) e in
+    let rest = count_stretch p (suc m) n (a + 1) (omega arith) in
+    let more : suc m + n ≡ m + suc n = omega arith in
+    omega (arith, head, here, rest, ap (count_below (λ k. p (suc k))) more)
+
+pub free_counted : (rs : List Literal) → length (filter (own (root_at rs)) (range_with_len 1 (length rs))) ≡ free rs
+free_counted rs =
+    let all : 0 + length rs ≡ length rs = omega arith in
+    omega (arith, length-filter (own (root_at rs)) (range_with_len 1 (length rs)), count_stretch (own (root_at rs)) 0 (length rs) 1 refl, ap (free_to (root_at rs)) all)

@@ -1,7 +1,8 @@
-use Rattle.std.proofs.Common.{◌+◌, ◌<◌, List, length, take, sym, subst, inl, inr, arith}
+use Rattle.std.proofs.Common.{◌+◌, ◌<◌, List, length, take, sym, ◌∙◌, subst, inl, inr, arith}
 use Rattle.order.specs.declared.literal.Literal.{Literal}
 use Rattle.order.specs.declared.literal.Literal.TheVariants.{False}
 use Rattle.order.specs.Variables.{ranges_of}
+use Rattle.order.proofs.Signs.{eq_same}
 use Rattle.ties.specs.Roots.{root_at}
 use Rattle.ties.specs.Views.{roots_of}
 use Rattle.cnf.specs.Numbered.{rooted}
@@ -47,11 +48,11 @@ returns-then-eq c =
     let rs = ranges_of c.args.variables.now in
     let f = root_at (roots_of c.args.ties.now) in
     let d : List Literal = rooted rs f c.args.clause.now in
-    end_nothing d c.loop-bound.bound-index c.loop-bound.last c.loop-bound.invariant (omega (arith, length_rooted rs f c.args.clause.now)) (sym c.if-eq.ensures)
+    end_nothing d c.loop-bound.bound-index c.loop-bound.last c.loop-bound.invariant (omega (arith, length_rooted rs f c.args.clause.now)) (sym (c.if-eq.ensures ∙ eq_same c.loop-bound.last False))
 
 pub returns-else-eq : goal.returns-else-eq
 returns-else-eq c =
     let rs = ranges_of c.args.variables.now in
     let f = root_at (roots_of c.args.ties.now) in
     let d : List Literal = rooted rs f c.args.clause.now in
-    end_one d c.loop-bound.bound-index c.loop-bound.last c.loop-bound.invariant (omega (arith, length_rooted rs f c.args.clause.now)) (sym c.if-eq.ensures)
+    end_one d c.loop-bound.bound-index c.loop-bound.last c.loop-bound.invariant (omega (arith, length_rooted rs f c.args.clause.now)) (sym (c.if-eq.ensures ∙ eq_same c.loop-bound.last False))
