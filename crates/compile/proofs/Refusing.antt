@@ -1,7 +1,7 @@
 -- A writing that is refused. Assumes nothing.
 use Rattle.std.proofs.Common.{◌≡◌, ℕ, List, None, Ok, Err, Result, sym, subst}
 use Rattle.std.specs.Result.{IsErrAnd}
-use Rattle.job.specs.declared.refusal.Refusal.{Refusal}
+use Rattle.calls.specs.declared.refusal.Refusal.{Refusal}
 use Rattle.job.specs.Writes.{writing}
 use Rattle.sheet.specs.Sheets.{reading}
 use Rattle.sink.specs.Text.{text_costs}

@@ -1,7 +1,7 @@
 -- How a refusal is told. Assumes nothing.
 use Rattle.std.specs.Prelude.{ℕ, List, [], ◌∷◌, ◌++◌, codes, decimal}
 use Rattle.sheet.specs.Refusals.{number, layer}
-use Rattle.job.specs.Refusals.{number as job_number}
+use Rattle.calls.specs.Refusals.{number as job_number}
 use Rattle.compile.specs.declared.refused.Refused.{Refused}
 use Rattle.compile.specs.declared.refused.Refused.TheVariants.{Sheet, Writing}
 

@@ -1,56 +1,29 @@
 -- One variable more: its bits, and the view of the job. Assumes nothing.
-use Rattle.std.proofs.Common.{◌≡◌, ℕ, ◌+◌, ◌-◌, ◌<◌, ◌≤◌, Bool, true, false, cond, List, [], ◌∷◌, ◌++◌, length, is_err, Some, None, Ok, Err, Result, sym, refl, ap, ◌∙◌, arith}
-use Rattle.std.proofs.lemmas.List.{length_push}
-use Rattle.std.proofs.lemmas.Bool.{both_ways, le-leb}
+use Rattle.std.proofs.Common.{◌≡◌, ℕ, ◌+◌, ◌-◌, ◌<◌, ◌≤◌, Bool, true, false, cond, List, [], ◌∷◌, ◌++◌, length, Some, None, Ok, Err, Result, sym, refl, ap, ◌∙◌, arith}
+use Rattle.std.proofs.lemmas.Bool.{both_ways, false≢true, le-leb}
 use Rattle.std.proofs.lemmas.Bool.Decides.{nat_tests}
-use Rattle.order.specs.declared.literal.Literal.{Literal}
 use Rattle.order.specs.declared.range.Range.{Range}
 use Rattle.order.specs.declared.variables.adding.AddError.{AddError}
-use Rattle.order.specs.declared.variables.adding.AddError.TheVariants.{TooManyVariables as MoreVariables, TooManyBits as MoreBits, NoMemory}
-use Rattle.order.specs.Ranges.{is_range, range, total_bits, first}
+use Rattle.order.specs.declared.variables.adding.AddError.TheVariants.{TooManyVariables, TooManyBits, NoMemory}
+use Rattle.order.specs.Ranges.{is_range, range, total_bits}
 use Rattle.order.specs.Variables.{Adds, answered, few_variables, few_bits}
-use Rattle.order.proofs.Ranging.{first_push_all}
-use Rattle.ties.specs.declared.classes.growing.GrowError.{GrowError}
-use Rattle.ties.specs.Growth.{Grows}
-use Rattle.ties.specs.Roots.{Grown}
-use Rattle.job.specs.Questions.{verdict}
+use Rattle.calls.specs.Questions.{verdict}
+use Rattle.calls.proofs.Asking.{all_yes}
+use Rattle.calls.proofs.Declaring.{bits_more}
 use Rattle.job.specs.Declares.{declaring, declare_questions}
 use Rattle.job.specs.View.{View, with_variable}
-use Rattle.job.proofs.Asking.{all_yes}
-
--- a growth that met no error
-pub grown : (r : Result (Unit {0}) GrowError) (rs rs' : List Literal) (n : ℕ) → false ≡ is_err r → Grows r rs n rs' → Grown rs n rs'
-grown (Ok x) rs rs' n e g = g.1
-grown (Err q) rs rs' n e g = absurd (no e)
-  where
-    no : false ≡ true → ⊥
-    no h = grind arith
-
--- the bits of all variables, with one more
-pub bits_push : (rs rs' : List Range) (r : Range) → rs' ≡ rs ++ r ∷ [] → total_bits rs' ≡ total_bits rs + (r.high - r.low)
-bits_push rs rs' r e =
-    ap total_bits e ∙ ap (first (rs ++ r ∷ [])) (length_push rs r) ∙ first_push_all rs r
 
 -- where there is room and memory the range is added
 pub added_bits : (x : Result ℕ AddError) (rs rs' : List Range) (r : Range) → Adds rs r x rs' → answered x ≡ true → length rs < 512 → total_bits rs + (r.high - r.low) ≤ 4096 → total_bits rs' ≡ total_bits rs + (r.high - r.low)
-added_bits (Ok x) rs rs' r a e few small = bits_push rs rs' r a.3
-added_bits (Err MoreVariables) rs rs' r a e few small = absurd (both_ways (few_variables rs 1) a.0 (le-leb (length rs + 1) 512 (omega arith)))
-added_bits (Err MoreBits) rs rs' r a e few small = absurd (both_ways (few_bits rs (r.high - r.low)) a.1 (le-leb (total_bits rs + (r.high - r.low)) 4096 small))
-added_bits (Err NoMemory) rs rs' r a e few small = absurd (no e)
-  where
-    no : false ≡ true → ⊥
-    no h = grind arith
+added_bits (Ok x) rs rs' r a e few small = bits_more rs rs' r a.3
+added_bits (Err TooManyVariables) rs rs' r a e few small = absurd (both_ways (few_variables rs 1) a.0 (le-leb (length rs + 1) 512 (omega arith)))
+added_bits (Err TooManyBits) rs rs' r a e few small = absurd (both_ways (few_bits rs (r.high - r.low)) a.1 (le-leb (total_bits rs + (r.high - r.low)) 4096 small))
+added_bits (Err NoMemory) rs rs' r a e few small = absurd (false≢true e)
 
 -- the test of a range that was made
 made_range : (b : Bool) (r s : Range) → Some r ≡ cond b (Some s) None → (b ≡ true) × (r ≡ s)
-made_range true r s e = (refl, some e)
-  where
-    some : {x y : Range} → Some x ≡ Some y → x ≡ y
-    some e = cc
-made_range false r s e = absurd (no e)
-  where
-    no : {x : Range} → Some x ≡ None → ⊥
-    no {x} e = let z : ◌≡◌ {A = ℕ} 0 1 = cc in omega arith
+made_range true r s e = (refl, grind arith)
+made_range false r s e = absurd (grind arith)
 
 is_range_ends : (l h : ℕ) → is_range l h ≡ true → (l ≤ h) × (h ≤ 255)
 is_range_ends l h e = grind (arith, nat_tests)
@@ -60,8 +33,7 @@ declared v v' low high x r made few small place more same =
     let is = made_range (is_range low high) r (range low high) made in
     let inside = is_range_ends low high is.0 in
     let width : high - low ≡ r.high - r.low = omega (arith, ap (λ (s : Range). s.low) is.1, ap (λ (s : Range). s.high) is.1) in
-    let small' : few_bits v.ranges (high - low) ≡ true = ap (few_bits v.ranges) width ∙ small in
-    let yes = all_yes (declare_questions v low high) (is.0, (few, (small', tt))) in
+    let yes = all_yes (declare_questions v low high) (is.0, (few, (ap (few_bits v.ranges) width ∙ small, tt))) in
     let view : with_variable v (range low high) ≡ v' = λ i. record {
       ranges = (ap (λ s. v.ranges ++ s ∷ []) (sym is.1) ∙ sym more) i;
       root = sym same i;

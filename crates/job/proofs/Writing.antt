@@ -23,11 +23,11 @@ use Rattle.cnf.specs.Numbered.{lit, written_clause, written_all, rooted}
 use Rattle.cnf.specs.Reduced.{has, struck, opposed}
 use Rattle.cnf.specs.Passed.{total_cost, with_clauses}
 use Rattle.cnf.proofs.Proper.{all_proper}
-use Rattle.job.specs.declared.refusal.Refusal.TheVariants.{HeaderPresent, NoSpace}
-use Rattle.job.specs.Questions.{verdict}
+use Rattle.calls.specs.declared.refusal.Refusal.TheVariants.{HeaderPresent, NoSpace}
+use Rattle.calls.specs.Questions.{verdict}
 use Rattle.job.specs.Writes.{output, header_of, cost_of, write_questions, filed, writing}
 use Rattle.job.specs.View.{View}
-use Rattle.job.proofs.Asking.{all_yes}
+use Rattle.calls.proofs.Asking.{all_yes}
 
 -- an order clause has two literals
 pub orders_short : (rs : List Range) → AllByRecursion (λ c. length c ≤ 64) (orders rs)

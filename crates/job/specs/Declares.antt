@@ -2,9 +2,9 @@
 use Rattle.std.specs.Prelude.{ℕ, ◌-◌, List, [], ◌∷◌, length, Result}
 use Rattle.order.specs.Ranges.{is_range, range}
 use Rattle.order.specs.Variables.{few_variables, few_bits}
-use Rattle.job.specs.declared.refusal.Refusal.{Refusal}
-use Rattle.job.specs.declared.refusal.Refusal.TheVariants.{BadRange, TooManyVariables, TooManyBits}
-use Rattle.job.specs.Questions.{Question, ask, first_no, verdict}
+use Rattle.calls.specs.declared.refusal.Refusal.{Refusal}
+use Rattle.calls.specs.declared.refusal.Refusal.TheVariants.{BadRange, TooManyVariables, TooManyBits}
+use Rattle.calls.specs.Questions.{Question, ask, first_no, verdict}
 use Rattle.job.specs.View.{View, with_variable}
 
 -- low ≤ high ≤ 255? With it at most 512 variables? At most 4,096 bits?

@@ -1,6 +1,4 @@
-pub mod Refusals
 pub mod View
-pub mod Questions
 pub mod Settled
 pub mod Declares
 pub mod Writes

@@ -9,9 +9,9 @@ use Rattle.sink.specs.declared.lit.Lit.{Lit}
 use Rattle.sink.specs.Sinks.{Costs, State}
 use Rattle.cnf.specs.Numbered.{written_all}
 use Rattle.cnf.specs.Passed.{total_cost}
-use Rattle.job.specs.declared.refusal.Refusal.{Refusal}
-use Rattle.job.specs.declared.refusal.Refusal.TheVariants.{HeaderPresent, NoSpace}
-use Rattle.job.specs.Questions.{Question, ask, first_no, verdict}
+use Rattle.calls.specs.declared.refusal.Refusal.{Refusal}
+use Rattle.calls.specs.declared.refusal.Refusal.TheVariants.{HeaderPresent, NoSpace}
+use Rattle.calls.specs.Questions.{Question, ask, first_no, verdict}
 use Rattle.job.specs.View.{View}
 
 -- the clauses of a job, in order: the order clauses of each variable

@@ -4,12 +4,12 @@ use Rattle.std.proofs.lemmas.List.{map_push}
 use Rattle.words.specs.declared.parts.Part.{Part}
 use Rattle.words.specs.Parts.{bytes}
 use Rattle.words.specs.Shapes.{number}
-use Rattle.job.specs.declared.refusal.Refusal.{Refusal}
+use Rattle.calls.specs.declared.refusal.Refusal.{Refusal}
 use Rattle.job.specs.Declares.{declaring}
 use Rattle.job.specs.View.{View}
-use Rattle.job.specs.declared.refusal.Fault.{Fault}
-use Rattle.job.specs.declared.refusal.Fault.TheVariants.{Refused as No, NoMemory as Lack}
-use Rattle.job.specs.Questions.{Answers}
+use Rattle.calls.specs.declared.refusal.Fault.{Fault}
+use Rattle.calls.specs.declared.refusal.Fault.TheVariants.{Refused as No, NoMemory as Lack}
+use Rattle.calls.specs.Questions.{Answers}
 use Rattle.sheet.specs.Reads.{Steps, passed}
 use Rattle.sheet.specs.declared.reader.Section.{Section}
 use Rattle.sheet.specs.declared.refusal.Reason.TheVariants.{BadVariable, NameTaken}

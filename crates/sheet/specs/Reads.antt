@@ -2,8 +2,8 @@
 use Rattle.std.specs.Prelude.{◌≡◌, ℕ, Bool, false, List, [], Some, None, Ok, Err, Result}
 use Rattle.sheet.specs.declared.reader.reading.LineFault.{LineFault}
 use Rattle.sheet.specs.declared.reader.reading.LineFault.TheVariants.{Refused, NoMemory}
-use Rattle.job.specs.declared.refusal.Fault.{Fault}
-use Rattle.job.specs.declared.refusal.Fault.TheVariants.{Refused as No, NoMemory as Lack}
+use Rattle.calls.specs.declared.refusal.Fault.{Fault}
+use Rattle.calls.specs.declared.refusal.Fault.TheVariants.{Refused as No, NoMemory as Lack}
 use Rattle.sheet.specs.declared.refusal.Reason.TheVariants.{Job}
 use Rattle.sheet.specs.declared.reader.reading.Shape.{Shape}
 use Rattle.sheet.specs.declared.reader.reading.Shape.TheVariants.{Wordless, Wordy}

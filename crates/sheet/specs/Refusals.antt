@@ -1,6 +1,6 @@
 -- The number and the layer of each refusal. Assumes nothing.
 use Rattle.std.specs.Prelude.{ℕ}
-use Rattle.job.specs.Refusals.{number as job_number}
+use Rattle.calls.specs.Refusals.{number as job_number}
 use Rattle.sheet.specs.declared.refusal.Reason.{Reason}
 use Rattle.sheet.specs.declared.refusal.Reason.TheVariants.{TooLong, BadVariable, NameTaken, BadRuleHeading, UnknownRule, BadHeading, Job}
 

@@ -3,7 +3,7 @@ use Rattle.std.specs.Prelude.{ℕ, ◌+◌, cond, List, [], ◌∷◌, ◌++◌,
 use Rattle.std.specs.Str.{bytes_eq}
 use Rattle.words.specs.Split.{lines, words}
 use Rattle.words.specs.Shapes.{number}
-use Rattle.job.specs.declared.refusal.Refusal.{Refusal}
+use Rattle.calls.specs.declared.refusal.Refusal.{Refusal}
 use Rattle.job.specs.Declares.{declaring}
 use Rattle.job.specs.View.{View, new_view}
 use Rattle.sheet.specs.declared.refusal.Reason.{Reason}

@@ -1,7 +1,7 @@
 //! A new job, and one variable more.
 ghost use Rattle.std.specs.Prelude.{◌≡◌, ◌-◌, true, not};
 ghost use Rattle.order.specs.Variables.{ranges_of, few_variables};
-ghost use Rattle.job.specs.Questions.{Answers, answered};
+ghost use Rattle.calls.specs.Questions.{Answers, answered};
 ghost use Rattle.job.specs.Declares.{declaring};
 ghost use Rattle.job.specs.View.{new_view};
 ghost use Rattle.job.specs.Views.{open_view, SpareBits};
@@ -29,24 +29,18 @@ impl OpenJob {
         ensures answers { Answers (declaring (open_view self.old) low high) result (open_view self.old) (open_view self.new) }
         ensures memory { SpareBits self.old (high - low) → answered result ≡ true }
     {
-        let Some(range) = Range::new(low, high) else {
-            return Err(Fault::Refused(Refusal::BadRange));
-        };
+        let range = Range::new(low, high).ok_or(Refusal::BadRange)?;
         let bits = usize::from(range.width());
         if self.is_full() {
-            return Err(Fault::Refused(Refusal::TooManyVariables));
+            return Err(Refusal::TooManyVariables.into());
         }
         if self.variables.bits() + bits > 4096 {
-            return Err(Fault::Refused(Refusal::TooManyBits));
+            return Err(Refusal::TooManyBits.into());
         }
         // Memory is found before anything changes.
-        if self.variables.reserve(1).is_err() || self.ties.grow(bits).is_err() {
-            return Err(Fault::NoMemory);
-        }
-        match self.variables.add(range) {
-            Ok(place) => Ok(place),
-            Err(_) => Err(Fault::NoMemory),
-        }
+        self.variables.reserve(1)?;
+        self.ties.grow(bits)?;
+        Ok(self.variables.add(range)?)
     }
 
     // Whether there is no room for one variable more.

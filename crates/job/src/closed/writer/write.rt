@@ -3,7 +3,7 @@ ghost use Rattle.std.specs.Prelude.{◌≡◌, length, IfOk, nat_lt};
 ghost use Rattle.order.specs.Variables.{ranges_of};
 ghost use Rattle.cnf.specs.Encoded.{Ready};
 ghost use Rattle.cnf.specs.Passed.{total_cost, with_clauses};
-ghost use Rattle.job.specs.Questions.{Replies};
+ghost use Rattle.calls.specs.Questions.{Replies};
 ghost use Rattle.job.specs.Writes.{output, writing};
 ghost use Rattle.job.specs.Views.{closed_view, writer_view, parts_view, root_of};
 
