@@ -1,2 +1,2 @@
-pub mod Scans
-pub mod NeqSteps
+pub mod Loops
+pub mod OverLists

@@ -1,5 +1,6 @@
 -- Bounds of which at least one holds. Assumes nothing.
 use Rattle.std.specs.Prelude.{Bool, true, false, ◌&&◌, List, [], ◌∷◌, map, length, take, nat_le}
+use Rattle.std.specs.List.{list_all}
 use Rattle.order.specs.declared.bound.Bound.{Bound}
 use Rattle.order.specs.Bounds.{reaches}
 use Rattle.kinds.specs.declared.item.Item.{Item}
@@ -19,8 +20,7 @@ is_bound (Variable x) = false
 is_bound (Bounded b) = true
 
 abbrev pub bounds_only : List Item → Bool
-bounds_only [] = true
-bounds_only (i ∷ items) = is_bound i && bounds_only items
+bounds_only items = list_all is_bound items
 
 -- at least one of 1 to 64 bounds holds
 abbrev pub at_least_one : Meaning

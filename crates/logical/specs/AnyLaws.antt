@@ -1,10 +1,10 @@
 -- The laws of bounds of which at least one holds. Assumes nothing.
-use Rattle.std.specs.Prelude.{◌≡◌, ℕ, ◌+◌, ◌<◌, ◌≤◌, min, true, ◌&&◌, ◌⊎◌, List, [], ◌∷◌, ◌++◌, length, take, ◌==◌, nat_le, slice_index_or, slice_set, refl}
-use Rattle.std.proofs.Common.{sym, ap, subst, ◌∙◌, inl, inr, arith, lit≤}
+use Rattle.std.specs.Prelude.{◌≡◌, ℕ, ◌≤◌, true, ◌&&◌, List, [], ◌∷◌, length, take, ◌==◌, nat_le, refl}
+use Rattle.std.proofs.Common.{sym, ap, subst, arith, lit≤}
 use Rattle.std.specs.List.{AllByRecursion}
 use Rattle.std.proofs.ByRecursion.{All-weaker}
-use Rattle.std.proofs.lemmas.List.{length-map, take_all, map_more, take_more_set}
-use Rattle.std.proofs.lemmas.Bool.{false≢true, and_parts, leb-true, or_left, or_right, eq-eqb, cases_lt}
+use Rattle.std.proofs.lemmas.List.{length-map, take_all}
+use Rattle.std.proofs.lemmas.Bool.{false≢true, and_parts, leb-true, or_left, or_right, eq-eqb}
 use Rattle.order.specs.declared.bound.Bound.{Bound}
 use Rattle.order.specs.Bounds.{holds}
 use Rattle.kinds.specs.declared.item.Item.{Item}
@@ -62,16 +62,3 @@ any_lawful = record {
   few_pairings = λ items rs apt. lit≤ tt;
   short_premises = λ items rs apt. tt;
 }
-
--- a turn that copies a bound
-pub copied : (clause : List Bound) (items : List Item) (k : ℕ) (b : Bound) (d : Item) → k < length clause → k < length items → b ≡ bound_of (slice_index_or items k d) → take k clause ≡ bounds (take k items) → take (k + 1) (slice_set clause k b) ≡ bounds (take (k + 1) items)
-copied clause items k b d l h e inv =
-    take_more_set clause k b l ∙ ap (λ x. x ++ b ∷ []) inv ∙ ap (λ x. bounds (take k items) ++ x ∷ []) e ∙ sym (map_more bound_of items k d h)
-
--- the first 64, where all that there are of them have been copied
-pub all_copied : (clause : List Bound) (items : List Item) (n k : ℕ) → n ≡ min (length items) 64 → n ≡ k → take k clause ≡ bounds (take k items) → take n clause ≡ bounds (take 64 items)
-all_copied clause items n k first e inv = ap (λ m. take m clause) e ∙ inv ∙ ap bounds (cut (cases_lt 64 (length items)))
-  where
-    cut : (64 < length items) ⊎ (length items ≤ 64) → take k items ≡ take 64 items
-    cut (inl p) = let e : k ≡ 64 = omega arith in ap (λ m. take m items) e
-    cut (inr p) = take_all k items (omega arith) ∙ sym (take_all 64 items p)

@@ -4,7 +4,7 @@ use Rattle.order.specs.declared.bound.Bound.{Bound}
 use Rattle.order.specs.declared.range.Range.{Range}
 use Rattle.order.specs.Between.{between}
 use Rattle.kinds.specs.declared.item.Item.{Item}
-use Rattle.kinds.specs.Items.{var, variables_only, Pairing}
+use Rattle.kinds.specs.Items.{var, variable_of, variables_only, Pairing}
 use Rattle.kinds.specs.Meaning.{Meaning}
 use Rattle.kinds.specs.Tests.{all_between}
 use Rattle.logical.specs.Neq.{apart, excludes_each}
@@ -28,6 +28,10 @@ apart_later items rs p = between (apart_pair items rs p) (p + 1) (length items)
 
 abbrev pub all_apart : List Item → List Range → List (List Bound)
 all_apart items rs = between (apart_later items rs) 0 (length items)
+
+-- the clauses by which a variable and that of an item differ
+abbrev pub apart_from : List Range → ℕ → Item → List (List Bound)
+apart_from rs a i = apart rs a (variable_of i)
 
 -- where the item at p is v, the one at another place q is not; the same for each q; the same for each p
 abbrev pub excludes_pair : List Item → List Range → ℕ → ℕ → List Pairing

@@ -12,6 +12,7 @@ use kinds::reading;
 use order::bound::Bound;
 use order::range::Range;
 use order::visit::Visitor;
+use std::array;
 
 /// At least one of 1 to 64 bounds holds.
 pub struct Any;
@@ -33,19 +34,14 @@ fn bound_of(item: Item) -> Bound
 fn only_bounds(items: &[Item]) -> bool
     ensures { result ≡ bounds_only items.now }
 {
-    for item in items {
-        if let Item::Variable(_) = item {
-            return false;
-        }
-    }
-    true
+    items.iter().all(|item| matches!(item, Item::Bounded(_)))
 }
 
 // Whether a bound holds under the values.
 fn holds(bound: Bound, values: &[u8]) -> bool
     ensures { result ≡ holds (valued values.now) bound }
 {
-    let value = reading::value_of(values, bound.variable) as u16;
+    let value = u16::from(reading::value_of(values, bound.variable));
     if bound.opposed {
         value < bound.at
     } else {
@@ -56,7 +52,7 @@ fn holds(bound: Bound, values: &[u8]) -> bool
 impl Kind for Any {
     const CODE: u8 = 7;
 
-    const LONGEST: usize = 64;
+    const LONGEST: usize = MOST;
 
     ghost CODE = { 7 };
 
@@ -69,7 +65,7 @@ impl Kind for Any {
     ghost lawful = { any_lawful };
 
     fn formed(items: &[Item]) -> bool {
-        1 <= items.len() && items.len() <= MOST && only_bounds(items)
+        (1..=MOST).contains(&items.len()) && only_bounds(items)
     }
 
     fn fits(_items: &[Item], _ranges: &[Range]) -> bool {
@@ -77,21 +73,15 @@ impl Kind for Any {
     }
 
     fn met(items: &[Item], values: &[u8]) -> bool {
-        for item in items {
-            if holds(bound_of(*item), values) {
-                return true;
-            }
-        }
-        false
+        items.iter().any(|item| holds(bound_of(*item), values))
     }
 
     fn visit_clauses<V: Visitor>(items: &[Item], _ranges: &[Range], visitor: &mut V) {
-        let count = items.len().min(MOST);
-        let mut clause = [Bound::at_least(0, 0); MOST];
-        for k in 0..count {
-            clause[k] = bound_of(items[k]);
-        }
-        visitor.visit(&clause[..count]);
+        // Kept as it is: nothing is allocated per clause, so its bounds fill the front of an array.
+        let clause: [Bound; MOST] = array::from_fn(|k| {
+            bound_of(items.get(k).copied().unwrap_or(Item::Variable(0)))
+        });
+        visitor.visit(&clause[..items.len().min(MOST)]);
     }
 
     fn tell_pairings<L: Listener>(_items: &[Item], _ranges: &[Range], _listener: &mut L) {}

@@ -1,11 +1,13 @@
 //! Variables that all differ.
 ghost use Rattle.std.specs.Prelude.{◌≡◌, ◌<◌, length, refl};
+ghost use Rattle.order.specs.Between.{joined};
 ghost use Rattle.order.specs.Visits.{After};
+ghost use Rattle.kinds.specs.Items.{var};
 ghost use Rattle.kinds.specs.Meaning.{valued};
-ghost use Rattle.logical.specs.Distinct.{distinct, differ_later, apart_later, excludes_pair, excludes_others};
+ghost use Rattle.logical.specs.Distinct.{distinct, differ_later, apart_from, excludes_others};
 ghost use Rattle.logical.specs.DistinctLaws.{distinct_lawful};
 
-use crate::neq;
+use crate::neq::Pair;
 use kinds::item::Item;
 use kinds::kind::Kind;
 use kinds::listen::{Listener, Standing};
@@ -21,44 +23,32 @@ fn differs_later(items: &[Item], values: &[u8], p: usize) -> bool
     requires { p < length items.now }
     ensures { result ≡ differ_later items.now (valued values.now) p }
 {
-    let value = reading::value_of(values, reading::variable_at(items, p));
-    for q in p + 1..items.len() {
-        if value == reading::value_of(values, reading::variable_at(items, q)) {
-            return false;
-        }
-    }
-    true
+    let value = reading::value_of(values, items[p].variable());
+    items[p + 1..].iter().all(|later| value != reading::value_of(values, later.variable()))
 }
 
-// Shows the visitor that the item at p differs from each later one.
-fn visit_later<V: Visitor>(items: &[Item], ranges: &[Range], p: usize, visitor: &mut V)
-    requires { p < length items.now }
-    ensures { After V.Visitor.step visitor.old (apart_later items.now ranges.now p) visitor.new }
+// Shows the visitor that A differs from each of the later items.
+#[tactic(auto, using(crate::proofs::Loops::next))]
+fn visit_later<V: Visitor>(a: u16, later: &[Item], ranges: &[Range], visitor: &mut V)
+    ensures { After V.Visitor.step visitor.old (joined (apart_from ranges.now a) later.now) visitor.new }
 {
-    let a = reading::variable_at(items, p);
-    for q in p + 1..items.len() {
-        let b = reading::variable_at(items, q);
-        neq::visit_apart(ranges, a, b, visitor);
+    for item in later {
+        let b = item.variable();
+        Pair { a, b }.visit_apart(ranges, visitor);
     }
 }
 
-// Tells the listener that the item at q is not v where that at p is; nothing where they are one.
-fn tell_pair<L: Listener>(items: &[Item], ranges: &[Range], p: usize, q: usize, listener: &mut L)
-    ensures { After L.Listener.hears listener.old (excludes_pair items.now ranges.now p q) listener.new }
-{
-    if p != q {
-        let a = reading::variable_at(items, p);
-        let b = reading::variable_at(items, q);
-        neq::tell_excluded(ranges, a, b, listener);
-    }
-}
-
-// Tells the listener that each other item is not v where the item at p is.
-fn tell_others<L: Listener>(items: &[Item], ranges: &[Range], p: usize, listener: &mut L)
+// Tells the listener that each item but that at p, which is A, is not v where A is.
+#[tactic(auto, using(crate::proofs::Loops::next))]
+fn tell_others<L: Listener>(p: usize, a: u16, items: &[Item], ranges: &[Range], listener: &mut L)
+    requires { a ≡ var items.now p }
     ensures { After L.Listener.hears listener.old (excludes_others items.now ranges.now p) listener.new }
 {
-    for q in 0..items.len() {
-        tell_pair(items, ranges, p, q, listener);
+    for (q, item) in items.iter().enumerate() {
+        if p != q {
+            let b = item.variable();
+            Pair { a, b }.tell_excluded(ranges, listener);
+        }
     }
 }
 
@@ -78,7 +68,7 @@ impl Kind for Distinct {
     ghost lawful = { distinct_lawful };
 
     fn formed(items: &[Item]) -> bool {
-        2 <= items.len() && items.len() <= 32 && reading::only_variables(items, items.len())
+        (2..=32).contains(&items.len()) && reading::only_variables(items, items.len())
     }
 
     fn fits(_items: &[Item], _ranges: &[Range]) -> bool {
@@ -86,23 +76,20 @@ impl Kind for Distinct {
     }
 
     fn met(items: &[Item], values: &[u8]) -> bool {
-        for p in 0..items.len() {
-            if !differs_later(items, values, p) {
-                return false;
-            }
-        }
-        true
+        (0..items.len()).all(|p| differs_later(items, values, p))
     }
 
+    #[tactic(auto, using(crate::proofs::Loops::next))]
     fn visit_clauses<V: Visitor>(items: &[Item], ranges: &[Range], visitor: &mut V) {
-        for p in 0..items.len() {
-            visit_later(items, ranges, p, visitor);
+        for (p, item) in items.iter().enumerate() {
+            visit_later(item.variable(), &items[p + 1..], ranges, visitor);
         }
     }
 
+    #[tactic(auto, using(crate::proofs::Loops::next))]
     fn tell_pairings<L: Listener>(items: &[Item], ranges: &[Range], listener: &mut L) {
-        for p in 0..items.len() {
-            tell_others(items, ranges, p, listener);
+        for (p, item) in items.iter().enumerate() {
+            tell_others(p, item.variable(), items, ranges, listener);
         }
     }
 

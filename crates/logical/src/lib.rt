@@ -3,9 +3,7 @@
 
 pub mod any;
 pub mod distinct;
-mod extreme;
-pub mod max;
-pub mod min;
+pub mod extreme;
 pub mod neq;
 pub mod six;
 pub mod when;

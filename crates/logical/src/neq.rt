@@ -1,6 +1,8 @@
 //! Two variables that differ.
-ghost use Rattle.std.specs.Prelude.{◌≡◌, ◌<◌, ◌≤◌, [], ◌∷◌, refl};
+ghost use Rattle.std.specs.Prelude.{◌≡◌, ◌+◌, ◌<◌, false, [], ◌∷◌, refl};
+ghost use Rattle.std.specs.Range.{range_inclusive_start, range_inclusive_end, range_inclusive_exhausted};
 ghost use Rattle.order.specs.Visits.{After};
+ghost use Rattle.kinds.specs.Items.{var};
 ghost use Rattle.logical.specs.Neq.{neq, shared_from, shared_past, not_both, apart, skips, settled_in, excludes_each, alike, mirrored, apart_pairings};
 ghost use Rattle.logical.specs.NeqLaws.{neq_lawful};
 
@@ -11,42 +13,111 @@ use kinds::reading;
 use order::bound::Bound;
 use order::range::Range;
 use order::visit::Visitor;
+use std::ops::RangeInclusive;
 
 /// A and B differ.
 pub struct Neq;
 
-// The values that A and B can both have: from the first number on, and below the second.
-fn shared(ranges: &[Range], a: u16, b: u16) -> (u16, u16)
-    ensures from { result.0 ≡ shared_from ranges.now a b }
-    ensures past { result.1 ≡ shared_past ranges.now a b }
-    ensures small { result.1 ≤ 256 }
-{
-    let of_a = reading::range_of(ranges, a);
-    let of_b = reading::range_of(ranges, b);
-    let from = of_a.low().max(of_b.low()) as u16;
-    let past = of_a.high().min(of_b.high()) as u16 + 1;
-    (from, past)
+// Two variables.
+#[derive(Clone, Copy)]
+pub(crate) struct Pair {
+    pub(crate) a: u16,
+    pub(crate) b: u16,
 }
 
-// Shows the visitor that A and B are not both v.
-fn visit_not_both<V: Visitor>(a: u16, b: u16, v: u16, visitor: &mut V)
-    requires { v < 256 }
-    ensures { After V.Visitor.step visitor.old (not_both a b v) visitor.new }
-{
-    let under_a = Bound::below(a, v);
-    let over_a = Bound::at_least(a, v + 1);
-    let under_b = Bound::below(b, v);
-    let over_b = Bound::at_least(b, v + 1);
-    visitor.visit(&[under_a, over_a, under_b, over_b]);
-}
+impl Pair {
+    // The row of the items.
+    fn of(items: &[Item]) -> Pair
+        ensures a { result.a ≡ var items.now 0 }
+        ensures b { result.b ≡ var items.now 1 }
+    {
+        Pair {
+            a: reading::variable_at(items, 0),
+            b: reading::variable_at(items, 1),
+        }
+    }
 
-// Shows the visitor that A and B differ.
-pub(crate) fn visit_apart<V: Visitor>(ranges: &[Range], a: u16, b: u16, visitor: &mut V)
-    ensures { After V.Visitor.step visitor.old (apart ranges.now a b) visitor.new }
-{
-    let (from, past) = shared(ranges, a, b);
-    for v in from..past {
-        visit_not_both(a, b, v, visitor);
+    // The values that A and B can both have.
+    fn shared(self, ranges: &[Range]) -> RangeInclusive<u8>
+        ensures from { range_inclusive_start result ≡ shared_from ranges.now self.a self.b }
+        ensures past { range_inclusive_end result + 1 ≡ shared_past ranges.now self.a self.b }
+        ensures fresh { range_inclusive_exhausted result ≡ false }
+    {
+        let of_a = reading::range_of(ranges, self.a);
+        let of_b = reading::range_of(ranges, self.b);
+        of_a.low().max(of_b.low())..=of_a.high().min(of_b.high())
+    }
+
+    // Shows the visitor that A and B are not both v.
+    fn visit_not_both<V: Visitor>(self, v: u8, visitor: &mut V)
+        ensures { After V.Visitor.step visitor.old (not_both self.a self.b v) visitor.new }
+    {
+        let from = u16::from(v);
+        let over = from + 1;
+        visitor.visit(&[
+            Bound::below(self.a, from),
+            Bound::at_least(self.a, over),
+            Bound::below(self.b, from),
+            Bound::at_least(self.b, over),
+        ]);
+    }
+
+    // Shows the visitor that A and B differ.
+    #[tactic(auto, using(crate::proofs::Loops::next))]
+    pub(crate) fn visit_apart<V: Visitor>(self, ranges: &[Range], visitor: &mut V)
+        ensures { After V.Visitor.step visitor.old (apart ranges.now self.a self.b) visitor.new }
+    {
+        for v in self.shared(ranges) {
+            self.visit_not_both(v, visitor);
+        }
+    }
+
+    // Tells the listener that B is not v where A is, for each value.
+    #[tactic(auto, using(crate::proofs::Loops::next))]
+    pub(crate) fn tell_excluded<L: Listener>(self, ranges: &[Range], listener: &mut L)
+        ensures { After L.Listener.hears listener.old (excludes_each ranges.now self.a self.b) listener.new }
+    {
+        let of_a = reading::range_of(ranges, self.a);
+        for v in self.shared(ranges) {
+            let v = u16::from(v);
+            listener.hear(&settled(of_a, self.a, v), skips(self.b, v));
+        }
+    }
+
+    // Tells the listener that A is not v where A is v exactly when B is.
+    fn tell_matches<L: Listener>(self, v: u8, listener: &mut L)
+        ensures { After L.Listener.hears listener.old (alike self.a self.b v ∷ mirrored self.a self.b v ∷ []) listener.new }
+    {
+        let from = u16::from(v);
+        let over = from + 1;
+        let from_a = Bound::at_least(self.a, from);
+        let over_a = Bound::at_least(self.a, over);
+        let gives = Tie::between(from_a, over_a);
+        let same = [
+            Tie::between(from_a, Bound::at_least(self.b, from)),
+            Tie::between(over_a, Bound::at_least(self.b, over)),
+        ];
+        let turned = [
+            Tie::between(from_a, Bound::below(self.b, over)),
+            Tie::between(over_a, Bound::below(self.b, from)),
+        ];
+        listener.hear(&same, gives);
+        listener.hear(&turned, gives);
+    }
+
+    // Tells the listener the pairings of A and B, which differ.
+    #[tactic(auto, using(crate::proofs::Loops::next))]
+    fn tell_apart<L: Listener>(self, ranges: &[Range], listener: &mut L)
+        ensures { After L.Listener.hears listener.old (apart_pairings ranges.now self.a self.b) listener.new }
+    {
+        let of_a = reading::range_of(ranges, self.a);
+        let of_b = reading::range_of(ranges, self.b);
+        for value in self.shared(ranges) {
+            let v = u16::from(value);
+            listener.hear(&settled(of_a, self.a, v), skips(self.b, v));
+            listener.hear(&settled(of_b, self.b, v), skips(self.a, v));
+            self.tell_matches(value, listener);
+        }
     }
 }
 
@@ -70,49 +141,6 @@ fn skips(x: u16, v: u16) -> Tie
     let from = Bound::at_least(x, v);
     let over = Bound::at_least(x, v + 1);
     Tie::between(from, over)
-}
-
-// Tells the listener that B is not v where A is, for each value.
-pub(crate) fn tell_excluded<L: Listener>(ranges: &[Range], a: u16, b: u16, listener: &mut L)
-    ensures { After L.Listener.hears listener.old (excludes_each ranges.now a b) listener.new }
-{
-    let of_a = reading::range_of(ranges, a);
-    let (from, past) = shared(ranges, a, b);
-    for v in from..past {
-        listener.hear(&settled(of_a, a, v), skips(b, v));
-    }
-}
-
-// Tells the listener that A is not v where A is v exactly when B is.
-fn tell_matches<L: Listener>(a: u16, b: u16, v: u16, listener: &mut L)
-    requires { v < 256 }
-    ensures { After L.Listener.hears listener.old (alike a b v ∷ mirrored a b v ∷ []) listener.new }
-{
-    let from_a = Bound::at_least(a, v);
-    let over_a = Bound::at_least(a, v + 1);
-    let from_b = Bound::at_least(b, v);
-    let over_b = Bound::at_least(b, v + 1);
-    let under_b = Bound::below(b, v);
-    let upto_b = Bound::below(b, v + 1);
-    let gives = Tie::between(from_a, over_a);
-    let same = [Tie::between(from_a, from_b), Tie::between(over_a, over_b)];
-    let turned = [Tie::between(from_a, upto_b), Tie::between(over_a, under_b)];
-    listener.hear(&same, gives);
-    listener.hear(&turned, gives);
-}
-
-// Tells the listener the pairings of A and B, which differ.
-fn tell_apart<L: Listener>(ranges: &[Range], a: u16, b: u16, listener: &mut L)
-    ensures { After L.Listener.hears listener.old (apart_pairings ranges.now a b) listener.new }
-{
-    let of_a = reading::range_of(ranges, a);
-    let of_b = reading::range_of(ranges, b);
-    let (from, past) = shared(ranges, a, b);
-    for v in from..past {
-        listener.hear(&settled(of_a, a, v), skips(b, v));
-        listener.hear(&settled(of_b, b, v), skips(a, v));
-        tell_matches(a, b, v, listener);
-    }
 }
 
 impl Kind for Neq {
@@ -139,21 +167,16 @@ impl Kind for Neq {
     }
 
     fn met(items: &[Item], values: &[u8]) -> bool {
-        let a = reading::value_of(values, reading::variable_at(items, 0));
-        let b = reading::value_of(values, reading::variable_at(items, 1));
-        a != b
+        let row = Pair::of(items);
+        reading::value_of(values, row.a) != reading::value_of(values, row.b)
     }
 
     fn visit_clauses<V: Visitor>(items: &[Item], ranges: &[Range], visitor: &mut V) {
-        let a = reading::variable_at(items, 0);
-        let b = reading::variable_at(items, 1);
-        visit_apart(ranges, a, b, visitor)
+        Pair::of(items).visit_apart(ranges, visitor)
     }
 
     fn tell_pairings<L: Listener>(items: &[Item], ranges: &[Range], listener: &mut L) {
-        let a = reading::variable_at(items, 0);
-        let b = reading::variable_at(items, 1);
-        tell_apart(ranges, a, b, listener)
+        Pair::of(items).tell_apart(ranges, listener)
     }
 
     fn spent<T: Standing>(_items: &[Item], _ranges: &[Range], _ties: &T) -> bool {

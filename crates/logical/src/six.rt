@@ -1,8 +1,7 @@
 //! The kinds of row that stand here, in one list.
 use crate::any::Any;
 use crate::distinct::Distinct;
-use crate::max::Max;
-use crate::min::Min;
+use crate::extreme::{Max, Min};
 use crate::neq::Neq;
 use crate::when::When;
 use kinds::kinds::{Both, End};

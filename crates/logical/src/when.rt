@@ -1,6 +1,7 @@
 //! A variable that says whether one variable is at most another.
-ghost use Rattle.std.specs.Prelude.{◌<◌, refl};
+ghost use Rattle.std.specs.Prelude.{◌≡◌, refl};
 ghost use Rattle.order.specs.Visits.{After};
+ghost use Rattle.kinds.specs.Items.{var};
 ghost use Rattle.logical.specs.When.{when, upheld, denied, all_upheld, all_denied};
 ghost use Rattle.logical.specs.WhenLaws.{when_lawful};
 
@@ -15,48 +16,72 @@ use order::visit::Visitor;
 /// X is 1 exactly when A is at most B, and 0 otherwise.
 pub struct When;
 
-// Shows the visitor that B reaches v where X is 1 and A reaches v.
-fn visit_upheld<V: Visitor>(x: u16, a: u16, b: u16, v: u16, visitor: &mut V)
-    ensures { After V.Visitor.step visitor.old (upheld x a b v) visitor.new }
-{
-    let clause = [
-        Bound::below(x, 1),
-        Bound::below(a, v),
-        Bound::at_least(b, v),
-    ];
-    visitor.visit(&clause);
+// A row: X says whether A is at most B.
+#[derive(Clone, Copy)]
+struct Claim {
+    x: u16,
+    a: u16,
+    b: u16,
 }
 
-// Shows the visitor that A passes v where X is 0 and B reaches v.
-fn visit_denied<V: Visitor>(x: u16, a: u16, b: u16, v: u16, visitor: &mut V)
-    requires { v < 256 }
-    ensures { After V.Visitor.step visitor.old (denied x a b v) visitor.new }
-{
-    let clause = [
-        Bound::at_least(x, 1),
-        Bound::below(b, v),
-        Bound::at_least(a, v + 1),
-    ];
-    visitor.visit(&clause);
-}
-
-// Shows the visitor what X says where it is 1.
-fn visit_all_upheld<V: Visitor>(ranges: &[Range], x: u16, a: u16, b: u16, visitor: &mut V)
-    ensures { After V.Visitor.step visitor.old (all_upheld ranges.now x a b) visitor.new }
-{
-    let of_a = reading::range_of(ranges, a);
-    for v in of_a.low() as u16..of_a.high() as u16 + 1 {
-        visit_upheld(x, a, b, v, visitor);
+impl Claim {
+    // The row of the items.
+    fn of(items: &[Item]) -> Claim
+        ensures x { result.x ≡ var items.now 0 }
+        ensures a { result.a ≡ var items.now 1 }
+        ensures b { result.b ≡ var items.now 2 }
+    {
+        Claim {
+            x: reading::variable_at(items, 0),
+            a: reading::variable_at(items, 1),
+            b: reading::variable_at(items, 2),
+        }
     }
-}
 
-// Shows the visitor what X says where it is 0.
-fn visit_all_denied<V: Visitor>(ranges: &[Range], x: u16, a: u16, b: u16, visitor: &mut V)
-    ensures { After V.Visitor.step visitor.old (all_denied ranges.now x a b) visitor.new }
-{
-    let of_b = reading::range_of(ranges, b);
-    for v in of_b.low() as u16..of_b.high() as u16 + 1 {
-        visit_denied(x, a, b, v, visitor);
+    // Shows the visitor that B reaches v where X is 1 and A reaches v.
+    fn visit_upheld_at<V: Visitor>(self, v: u8, visitor: &mut V)
+        ensures { After V.Visitor.step visitor.old (upheld self.x self.a self.b v) visitor.new }
+    {
+        let v = u16::from(v);
+        visitor.visit(&[
+            Bound::below(self.x, 1),
+            Bound::below(self.a, v),
+            Bound::at_least(self.b, v),
+        ]);
+    }
+
+    // Shows the visitor that A passes v where X is 0 and B reaches v.
+    fn visit_denied_at<V: Visitor>(self, v: u8, visitor: &mut V)
+        ensures { After V.Visitor.step visitor.old (denied self.x self.a self.b v) visitor.new }
+    {
+        let v = u16::from(v);
+        visitor.visit(&[
+            Bound::at_least(self.x, 1),
+            Bound::below(self.b, v),
+            Bound::at_least(self.a, v + 1),
+        ]);
+    }
+
+    // Shows the visitor what X says where it is 1.
+    #[tactic(auto, using(crate::proofs::Loops::next))]
+    fn visit_upheld<V: Visitor>(self, ranges: &[Range], visitor: &mut V)
+        ensures { After V.Visitor.step visitor.old (all_upheld ranges.now self.x self.a self.b) visitor.new }
+    {
+        let of_a = reading::range_of(ranges, self.a);
+        for v in of_a.low()..=of_a.high() {
+            self.visit_upheld_at(v, visitor);
+        }
+    }
+
+    // Shows the visitor what X says where it is 0.
+    #[tactic(auto, using(crate::proofs::Loops::next))]
+    fn visit_denied<V: Visitor>(self, ranges: &[Range], visitor: &mut V)
+        ensures { After V.Visitor.step visitor.old (all_denied ranges.now self.x self.a self.b) visitor.new }
+    {
+        let of_b = reading::range_of(ranges, self.b);
+        for v in of_b.low()..=of_b.high() {
+            self.visit_denied_at(v, visitor);
+        }
     }
 }
 
@@ -80,22 +105,22 @@ impl Kind for When {
     }
 
     fn fits(items: &[Item], ranges: &[Range]) -> bool {
-        reading::range_of(ranges, reading::variable_at(items, 0)).high() <= 1
+        reading::range_of(ranges, Claim::of(items).x).high() <= 1
     }
 
     fn met(items: &[Item], values: &[u8]) -> bool {
-        let x = reading::value_of(values, reading::variable_at(items, 0));
-        let a = reading::value_of(values, reading::variable_at(items, 1));
-        let b = reading::value_of(values, reading::variable_at(items, 2));
-        x == if a <= b { 1 } else { 0 }
+        let row = Claim::of(items);
+        let x = reading::value_of(values, row.x);
+        let a = reading::value_of(values, row.a);
+        let b = reading::value_of(values, row.b);
+        x == u8::from(a <= b)
     }
 
+    #[tactic(auto, using(order::proofs::Visiting::after_join))]
     fn visit_clauses<V: Visitor>(items: &[Item], ranges: &[Range], visitor: &mut V) {
-        let x = reading::variable_at(items, 0);
-        let a = reading::variable_at(items, 1);
-        let b = reading::variable_at(items, 2);
-        visit_all_upheld(ranges, x, a, b, visitor);
-        visit_all_denied(ranges, x, a, b, visitor);
+        let row = Claim::of(items);
+        row.visit_upheld(ranges, visitor);
+        row.visit_denied(ranges, visitor);
     }
 
     fn tell_pairings<L: Listener>(_items: &[Item], _ranges: &[Range], _listener: &mut L) {}

@@ -1,25 +1,18 @@
-use Rattle.std.proofs.Common.{◌+◌, length, sym}
-use Rattle.kinds.specs.Items.{var}
+use Rattle.std.proofs.Common.{◌+◌, not, ◌==◌, drop, ◌∙◌, rules, tests}
+use Rattle.std.proofs.lemmas.List.{take_rest}
+use Rattle.std.proofs.lemmas.Iterator.{YieldsList-from_slice}
+use Rattle.std.proofs.lemmas.Iterator.Search.{all_from_yields_List}
+use Rattle.kinds.specs.declared.item.Item.{Item}
+use Rattle.kinds.specs.declared.item.Item.TheVariants.{Variable}
+use Rattle.kinds.specs.Items.{var, variable_of}
 use Rattle.kinds.specs.Meaning.{valued}
-use Rattle.kinds.proofs.Ranging.{all_more, all_stops}
-use Rattle.logical.specs.Distinct.{differ}
-use Rattle.logical.specs.DistinctLaws.{same_value, other_value}
+use Rattle.logical.proofs.OverLists.{all_from}
 use Rattle.logical.proofs.distinct.differs_later.Goals as goal
 
-pub returns-then-value-value_of : goal.returns-then-value-value_of
-returns-then-value-value_of c =
+pub returns : goal.returns
+returns c =
     let items = c.args.items.now in
     let v = valued c.args.values.now in
-    let p = c.args.p in
-    let q = c.loop-q.q in
-    let same = same_value v (var items p) (var items q) c.variable_at.result c.variable_at-in-loop-q.result c.value_of-value.result c.value_of.result c.variable_at.ensures c.variable_at-in-loop-q.ensures c.value_of-value.ensures c.value_of.ensures c.if-value-value_of.true in
-    sym (all_stops (differ items v p) (p + 1) (length items) q c.loop-q.auto.q c.loop-q-test.true same)
-
-pub loop-q-preserved : goal.loop-q-preserved
-loop-q-preserved c =
-    let items = c.args.items.now in
-    let v = valued c.args.values.now in
-    let p = c.args.p in
-    let q = c.loop-q.q in
-    let other = other_value v (var items p) (var items q) c.variable_at.result c.variable_at-in-loop-q.result c.value_of-value.result c.value_of.result c.variable_at.ensures c.variable_at-in-loop-q.ensures c.value_of-value.ensures c.value_of.ensures c.if-value-value_of.false in
-    all_more (differ items v p) (p + 1) q c.loop-q.auto.q c.loop-q.invariant other
+    let differs = λ (i : Item). not (v (var items c.args.p) == v (variable_of i)) in
+    all_from_yields_List differs _ _ c.all.result c.all.ensures.ran (YieldsList-from_slice (drop (c.args.p + 1) items) (simp take_rest at c.iter.ensures.rest)) (λ x b q k. search (rules, tests))
+    ∙ all_from differs items (Variable 0) (c.args.p + 1)

@@ -1,7 +1,10 @@
-use Rattle.order.specs.Between.{between}
-use Rattle.order.specs.Visits.{After}
-use Rattle.logical.specs.Distinct.{apart_pair}
+use Rattle.std.proofs.Common.{length}
+use Rattle.order.specs.Between.{joined}
+use Rattle.kinds.specs.declared.item.Item.TheVariants.{Variable}
+use Rattle.logical.specs.Distinct.{apart_from}
+use Rattle.logical.proofs.Loops.{Leads, at}
 use Rattle.logical.proofs.distinct.visit_later.Given as goal
 
-abbrev pub invariant-loop-q : goal.invariant-loop-q
-invariant-loop-q g l = After g.V.Visitor.step l.initial.visitor (between (apart_pair l.items l.ranges l.p) l.initial.q l.q) l.visitor
+abbrev pub invariant-loop-item : goal.invariant-loop-item
+invariant-loop-item g l =
+    Leads g.V.Visitor.step (at (apart_from l.ranges l.a) l.later (Variable 0)) l.item-index (length l.later) l.visitor (joined (apart_from l.ranges l.a) l.later) l.initial.visitor

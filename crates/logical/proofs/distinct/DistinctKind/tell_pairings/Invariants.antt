@@ -1,7 +1,8 @@
-use Rattle.order.specs.Between.{between}
-use Rattle.order.specs.Visits.{After}
-use Rattle.logical.specs.Distinct.{excludes_others}
+use Rattle.std.proofs.Common.{length}
+use Rattle.logical.specs.Distinct.{excludes_others, all_exclude}
+use Rattle.logical.proofs.Loops.{Leads}
 use Rattle.logical.proofs.distinct.DistinctKind.tell_pairings.Given as goal
 
 abbrev pub invariant-loop-p : goal.invariant-loop-p
-invariant-loop-p g l = After g.L.Listener.hears l.initial.listener (between (excludes_others l.items l.ranges) 0 l.p) l.listener
+invariant-loop-p g l =
+    Leads g.L.Listener.hears (excludes_others l.items l.ranges) l.p (length l.items) l.listener (all_exclude l.items l.ranges) l.initial.listener

@@ -1,9 +1,0 @@
-use Rattle.std.proofs.Common.{arith}
-use Rattle.order.proofs.Visiting.{after_more}
-use Rattle.logical.specs.When.{denied}
-use Rattle.logical.proofs.when.visit_all_denied.Goals as goal
-
-pub loop-v-preserved : goal.loop-v-preserved
-loop-v-preserved g c =
-    let f = denied c.args.x c.args.a c.args.b in
-    (after_more g.V.Visitor.step f c.low-v.result c.loop-v.v c.args.visitor.now c.loop-v.visitor c.visit_denied.new.visitor c.loop-v.auto.v c.loop-v.invariant.0 c.visit_denied.ensures, omega arith)
