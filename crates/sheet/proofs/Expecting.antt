@@ -1,11 +1,12 @@
 -- A word that is compared with the one expected. Assumes nothing.
-use Rattle.std.proofs.Common.{◌≡◌, ℕ, ◌+◌, ◌<◌, ◌≤◌, Bool, true, false, cond, List, ◌∷◌, map, length, get_or, drop, Some, None, Decides, sym, ap, ◌∙◌, arith}
+use Rattle.std.proofs.Common.{◌≡◌, ℕ, ◌+◌, ◌<◌, ◌≤◌, Bool, true, false, cond, List, [], ◌∷◌, map, length, get_or, drop, Some, None, Option, Bor, Decides, sym, refl, ap, ◌∙◌, arith}
 use Rattle.std.proofs.lemmas.List.{at_drop_more, at_drop_all}
 use Rattle.std.specs.Str.{bytes_eq}
+use Rattle.std.specs.List.{position_from}
 use Rattle.std.proofs.lemmas.Slice.Eq.{bytes_eq-Decides}
 use Rattle.words.specs.declared.parts.Part.{Part}
 use Rattle.words.specs.Parts.{bytes}
-use Rattle.sheet.specs.Lines.{first_fits}
+use Rattle.sheet.specs.Lines.{first_fits, rest, misfit}
 use Rattle.sheet.specs.Sheets.{find, find_from}
 
 -- two tests of one equation, either way round
@@ -17,8 +18,12 @@ same_test r x y d =
     both : (a b : Bool) → (a ≡ true → b ≡ true) → (b ≡ true → a ≡ true) → a ≡ b
     both a b f g = grind arith
 
-pub fits_word : (word b : List ℕ) (ws tl : List (List ℕ)) (r t : Bool) → ws ≡ b ∷ tl → Decides r (b ≡ word) → r ≡ t → first_fits (bytes_eq word) ws ≡ t
-fits_word word b ws tl r t e d h = ap (first_fits (bytes_eq word)) e ∙ sym (same_test r b word d) ∙ h
+-- the first word against the one expected; there may be none
+pub fits_first : (word b : List ℕ) (ws tl : List (List ℕ)) (r : Bool) → ws ≡ b ∷ tl → Decides r (b ≡ word) → r ≡ first_fits (bytes_eq word) ws
+fits_first word b ws tl r e d = same_test r b word d ∙ sym (ap (first_fits (bytes_eq word)) e)
+
+pub fits_none : (word : List ℕ) (ws : List (List ℕ)) → ws ≡ [] → false ≡ first_fits (bytes_eq word) ws
+fits_none word ws e = sym (ap (first_fits (bytes_eq word)) e)
 
 pub same_test_forward : (r : Bool) (x y : List ℕ) → Decides r (x ≡ y) → r ≡ bytes_eq x y
 same_test_forward r x y d = same_test r y x ((λ h. sym (d.0 h)), (λ e. d.1 (sym e)))
@@ -39,3 +44,22 @@ module _ (text : List ℕ) (ps : List Part) (name : List ℕ) (k : ℕ) (d : Par
 
 pub find_ends : (text : List ℕ) (ps : List Part) (name : List ℕ) (k : ℕ) → length ps ≤ k → find (map (bytes text) ps) name ≡ find_from k (map (bytes text) (drop k ps)) name → None ≡ find (map (bytes text) ps) name
 find_ends text ps name k h inv = sym (inv ∙ at_drop_all (λ qs. find_from k (map (bytes text) qs) name) ps k h)
+
+-- a word that is taken, or is not the one expected
+module _ (o : Option ℕ) (ps : List (Bor (List ℕ))) (ws vs : List (List ℕ)) (k : ℕ) (d : Bor (List ℕ)) (r : Bool) (fits : r ≡ first_fits (bytes_eq (get_or ps k d).now) ws) (left : vs ≡ rest ws) (lt : k < length ps) (inv : o ≡ misfit (map (λ w. bytes_eq w.now) (drop k ps)) ws (k + 1)) where
+  turn : o ≡ cond r (misfit (map (λ w. bytes_eq w.now) (drop (k + 1) ps)) vs (k + 1 + 1)) (Some (k + 1))
+  turn =
+      inv ∙ at_drop_more (λ qs. misfit (map (λ w. bytes_eq w.now) qs) ws (k + 1)) ps k d lt
+      ∙ ap (λ b. cond b (misfit (map (λ w. bytes_eq w.now) (drop (k + 1) ps)) (rest ws) (k + 1 + 1)) (Some (k + 1))) (sym fits)
+      ∙ ap (λ xs. cond r (misfit (map (λ w. bytes_eq w.now) (drop (k + 1) ps)) xs (k + 1 + 1)) (Some (k + 1))) (sym left)
+
+  pub word_taken : r ≡ true → o ≡ misfit (map (λ w. bytes_eq w.now) (drop (k + 1) ps)) vs (k + 1 + 1)
+  word_taken e = turn ∙ ap (λ b. cond b (misfit (map (λ w. bytes_eq w.now) (drop (k + 1) ps)) vs (k + 1 + 1)) (Some (k + 1))) e
+
+  pub word_wrong : r ≡ false → o ≡ Some (k + 1)
+  word_wrong e = turn ∙ ap (λ b. cond b (misfit (map (λ w. bytes_eq w.now) (drop (k + 1) ps)) vs (k + 1 + 1)) (Some (k + 1))) e
+
+-- a search by places
+pub find_by_place : (text : List ℕ) (name : List ℕ) (ps : List Part) (k : ℕ) → position_from (λ p. bytes_eq (bytes text p) name) k ps ≡ find_from k (map (bytes text) ps) name
+find_by_place text name [] k = refl
+find_by_place text name (p ∷ ps) k = ap (cond (bytes_eq (bytes text p) name) (Some k)) (find_by_place text name ps (k + 1))

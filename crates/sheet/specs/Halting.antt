@@ -10,4 +10,4 @@ use Rattle.sheet.specs.Views.{outcome_of}
 -- a refused line stops the sheet there; for want of memory there is no sheet
 abbrev pub Halts : LineFault → List ℕ → Draft → ℕ → Result Sheet AllocError → Type 0
 Halts (Refused q w) text d n r = IfOk r (λ s. outcome_of text s ≡ outcome d (Some (record { reason = q; line = n; word = w })))
-Halts NoMemory text d n r = is_ok r ≡ false
+Halts (NoMemory e) text d n r = is_ok r ≡ false

@@ -9,10 +9,5 @@ use words::parts::Part;
 pub fn find(text: &[u8], names: &[Part], name: &[u8]) -> Option<usize>
     ensures { result ≡ find (map (bytes text.now) names.now) name.now }
 {
-    for (k, part) in names.iter().enumerate() {
-        if part.of(text) == name {
-            return Some(k);
-        }
-    }
-    None
+    names.iter().position(|part| part.of(text) == name)
 }

@@ -1,74 +1,50 @@
 //! Words that a line should have, taken one after the other.
-ghost use Rattle.std.specs.Prelude.{◌≡◌};
+ghost use Rattle.std.specs.Prelude.{◌≡◌, map};
 ghost use Rattle.std.specs.Str.{bytes_eq};
-ghost use Rattle.words.specs.Shapes.{is_name, is_number};
-ghost use Rattle.sheet.specs.Expects.{Expects, Named, Counted, Ends};
+ghost use Rattle.words.specs.Parts.{bytes};
+ghost use Rattle.words.specs.Shapes.{is_name, is_number, number};
+ghost use Rattle.words.specs.Words.{words_left};
+ghost use Rattle.sheet.specs.Expects.{Takes};
+ghost use Rattle.sheet.specs.Reads.{Fits};
 
-use words::lines::next_word;
+use words::lines::Words;
 use words::parts::Part;
 use words::tokens::Word;
 
-/// Takes the given word; else the place where it should stand.
-pub(crate) fn expect_word(text: &[u8], rest: Part, word: &[u8], place: usize) -> Result<Part, usize>
-    ensures { Expects (bytes_eq word.now) text.now rest place result }
+/// Takes a name, and answers its place in the sheet; none where the next word is wrong or missing.
+pub(crate) fn take_name(words: &mut Words<'_>) -> Option<Part>
+    ensures { Takes is_name (λ w p. bytes words.old.text.now p ≡ w) words.old words.new result }
 {
-    let Some(found) = next_word(text, rest) else {
-        return Err(place);
-    };
-    if found.of(text) == word {
-        Ok(Part {
-            start: found.end,
-            end: rest.end,
-        })
-    } else {
-        Err(place)
+    let (part, word) = words.next()?;
+    match Word::of(word) {
+        Word::Name(_) => Some(part),
+        _ => None,
     }
 }
 
-/// Takes a name; else the place where it should stand.
-pub(crate) fn expect_name(text: &[u8], rest: Part, place: usize) -> Result<(Part, Part), usize>
-    ensures { Named text.now rest place result }
+/// Takes a number, and answers its value; none where the next word is wrong or missing.
+pub(crate) fn take_number(words: &mut Words<'_>) -> Option<u16>
+    ensures { Takes is_number (λ w n. n ≡ number w) words.old words.new result }
 {
-    let Some(found) = next_word(text, rest) else {
-        return Err(place);
-    };
-    match Word::of(found.of(text)) {
-        Word::Name(_) => Ok((
-            found,
-            Part {
-                start: found.end,
-                end: rest.end,
-            },
-        )),
-        _ => Err(place),
+    let (_, word) = words.next()?;
+    match Word::of(word) {
+        Word::Number(_, value) => Some(value),
+        _ => None,
     }
 }
 
-/// Takes a number; else the place where it should stand.
-pub(crate) fn expect_number(text: &[u8], rest: Part, place: usize) -> Result<(u16, Part), usize>
-    ensures { Counted text.now rest place result }
+/// Takes just these words and the line's end; else the place of the first word that is wrong, missing or too many.
+pub(crate) fn take_all(words: &mut Words<'_>, expected: &[&[u8]]) -> Result<(), usize>
+    ensures { Fits (map (λ w. bytes_eq w.now) expected.now) (words_left words.old) result }
 {
-    let Some(found) = next_word(text, rest) else {
-        return Err(place);
-    };
-    match Word::of(found.of(text)) {
-        Word::Number(_, value) => Ok((
-            value,
-            Part {
-                start: found.end,
-                end: rest.end,
-            },
-        )),
-        _ => Err(place),
+    for (k, word) in expected.iter().enumerate() {
+        match words.next() {
+            Some((_, found)) if found == *word => {}
+            _ => return Err(k + 1),
+        }
     }
-}
-
-/// Takes the line's end; else the place of the word that is too many.
-pub(crate) fn expect_end(text: &[u8], rest: Part, place: usize) -> Result<(), usize>
-    ensures { Ends text.now rest place result }
-{
-    match next_word(text, rest) {
-        Some(_) => Err(place),
+    match words.next() {
+        Some(_) => Err(expected.len() + 1),
         None => Ok(()),
     }
 }

@@ -4,19 +4,20 @@ ghost use Rattle.words.specs.Parts.{bytes};
 ghost use Rattle.words.specs.Split.{words};
 ghost use Rattle.sheet.specs.Expects.{words_of};
 ghost use Rattle.sheet.specs.Lines.{misfit, heading, rule_heading};
-ghost use Rattle.sheet.specs.Reads.{Fits, Declares, Steps, Reports, passed};
+ghost use Rattle.sheet.specs.Reads.{Fits, Declares, DeclaresOrRefuses, Steps, Passes};
+ghost use Rattle.sheet.specs.declared.reader.reading.LineFault.TheVariants.{NoMemory};
 ghost use Rattle.sheet.specs.Sheets.{reading, line_step, variable_line, outcome, end_stop};
 ghost use Rattle.sheet.specs.Halting.{Halts};
 ghost use Rattle.sheet.specs.Views.{draft_of, outcome_of};
 
 use super::{Reader, Section, Sheet};
 use crate::directory::find;
-use crate::expect::{expect_end, expect_name, expect_number, expect_word};
+use crate::expect::{take_all, take_name, take_number};
 use crate::refusal::{Reason, Stop};
 use job::open::OpenJob;
 use job::refusal::Fault;
 use std::alloc::{AllocError, Global};
-use words::lines::{next_line, next_word};
+use words::lines::{Lines, Words};
 use words::parts::Part;
 
 // Whether a sheet has more bytes than it may have.
@@ -27,35 +28,29 @@ fn too_long(text: &[u8]) -> bool
 }
 
 /// Why a line was not read: it is refused at a word, or there is no memory.
-#[derive(Clone, Copy)]
+#[derive(Clone, Copy, PartialEq, Eq, Debug)]
 pub enum LineFault {
     Refused(Reason, usize),
-    NoMemory,
+    NoMemory(AllocError),
 }
 
-// The job's refusals pass up whole, at word 1.
-fn pass_up(fault: Fault) -> LineFault
-    ensures { result ≡ passed fault }
-{
-    match fault {
-        Fault::Refused(refusal) => LineFault::Refused(Reason::Job(refusal), 1),
-        Fault::NoMemory => LineFault::NoMemory,
+impl From<AllocError> for LineFault {
+    ghost from_gives = { λ e f. f ≡ NoMemory e };
+
+    fn from(error: AllocError) -> LineFault {
+        LineFault::NoMemory(error)
     }
 }
 
-/// Whether a line has words.
-#[derive(Clone, Copy)]
-enum Shape {
-    Wordless,
-    Wordy,
-}
+// The job's refusals pass up whole, at word 1.
+impl From<Fault> for LineFault {
+    ghost from_gives = { Passes };
 
-fn shape_of(text: &[u8], line: Part) -> Shape
-    ensures { Reports (words_of text.now line) result }
-{
-    match next_word(text, line) {
-        Some(_) => Shape::Wordy,
-        None => Shape::Wordless,
+    fn from(fault: Fault) -> LineFault {
+        match fault {
+            Fault::Refused(refusal) => LineFault::Refused(Reason::Job(refusal), 1),
+            Fault::NoMemory => LineFault::NoMemory(AllocError),
+        }
     }
 }
 
@@ -63,30 +58,41 @@ fn shape_of(text: &[u8], line: Part) -> Shape
 fn first_heading(text: &[u8], line: Part) -> Result<(), usize>
     ensures { Fits heading (words_of text.now line) result }
 {
-    let rest = expect_word(text, line, b"name", 1)?;
-    let rest = expect_word(text, rest, b"low", 2)?;
-    let rest = expect_word(text, rest, b"high", 3)?;
-    expect_end(text, rest, 4)
+    take_all(
+        &mut Words::within(text, line),
+        &[b"name".as_slice(), b"low".as_slice(), b"high".as_slice()],
+    )
 }
 
 // The second heading, likewise.
 fn second_heading(text: &[u8], line: Part) -> Result<(), usize>
     ensures { Fits rule_heading (words_of text.now line) result }
 {
-    let rest = expect_word(text, line, b"rule", 1)?;
-    let rest = expect_word(text, rest, b"items", 2)?;
-    expect_end(text, rest, 3)
+    take_all(
+        &mut Words::within(text, line),
+        &[b"rule".as_slice(), b"items".as_slice()],
+    )
 }
 
 // The words of a variable line: the name's part and the two numbers; else the place of the first that is not right.
 fn variable_words(text: &[u8], line: Part) -> Result<(Part, u16, u16), usize>
     ensures { Declares text.now line result }
 {
-    let (name, rest) = expect_name(text, line, 1)?;
-    let (low, rest) = expect_number(text, rest, 2)?;
-    let (high, rest) = expect_number(text, rest, 3)?;
-    expect_end(text, rest, 4)?;
-    Ok((name, low, high))
+    let mut words = Words::within(text, line);
+    let name = take_name(&mut words).ok_or(1usize)?;
+    let low = take_number(&mut words).ok_or(2usize)?;
+    let high = take_number(&mut words).ok_or(3usize)?;
+    match words.next() {
+        Some(_) => Err(4),
+        None => Ok((name, low, high)),
+    }
+}
+
+// The same words, or the refusal of the line.
+fn declaration(text: &[u8], line: Part) -> Result<(Part, u16, u16), LineFault>
+    ensures { DeclaresOrRefuses text.now line result }
+{
+    variable_words(text, line).map_err(|place| LineFault::Refused(Reason::BadVariable, place))
 }
 
 impl Reader<'_> {
@@ -95,23 +101,14 @@ impl Reader<'_> {
         ensures text { self.new.text ≡ self.old.text }
         ensures steps { Steps (variable_line (draft_of self.old) (words_of self.old.text.now line)) result (draft_of self.old) (draft_of self.new) }
     {
-        let (name, low, high) = match variable_words(self.text, line) {
-            Ok(found) => found,
-            Err(place) => return Err(LineFault::Refused(Reason::BadVariable, place)),
-        };
+        let (name, low, high) = declaration(self.text, line)?;
         if find(self.text, &self.names, name.of(self.text)).is_some() {
             return Err(LineFault::Refused(Reason::NameTaken, 1));
         }
-        if self.names.reserve(1).is_err() {
-            return Err(LineFault::NoMemory);
-        }
-        match self.job.declare(u32::from(low), u32::from(high)) {
-            Ok(_) => {
-                self.names.push_reserved(name);
-                Ok(())
-            }
-            Err(fault) => Err(pass_up(fault)),
-        }
+        self.names.reserve(1)?;
+        self.job.declare(u32::from(low), u32::from(high))?;
+        self.names.push_reserved(name);
+        Ok(())
     }
 
     // One line: the section and the line's shape say what it should be.
@@ -119,19 +116,21 @@ impl Reader<'_> {
         ensures text { self.new.text ≡ self.old.text }
         ensures steps { Steps (line_step self.old.section (draft_of self.old) (words_of self.old.text.now line)) result (draft_of self.old) (draft_of self.new) }
     {
-        match (self.section, shape_of(self.text, line)) {
+        match (self.section, Words::within(self.text, line).next()) {
             (Section::Start, _) => {
-                if let Err(place) = first_heading(self.text, line) {
-                    return Err(LineFault::Refused(Reason::BadHeading, place));
-                }
+                first_heading(self.text, line).map_err(|place| LineFault::Refused(
+                    Reason::BadHeading,
+                    place,
+                ))?;
                 self.section = Section::Variables;
             }
-            (Section::Variables, Shape::Wordless) => self.section = Section::Gap,
-            (Section::Variables, Shape::Wordy) => return self.variable(line),
+            (Section::Variables, None) => self.section = Section::Gap,
+            (Section::Variables, Some(_)) => return self.variable(line),
             (Section::Gap, _) => {
-                if let Err(place) = second_heading(self.text, line) {
-                    return Err(LineFault::Refused(Reason::BadRuleHeading, place));
-                }
+                second_heading(self.text, line).map_err(|place| LineFault::Refused(
+                    Reason::BadRuleHeading,
+                    place,
+                ))?;
                 self.section = Section::Rules;
             }
             (Section::Rules, _) => return Err(LineFault::Refused(Reason::UnknownRule, 1)),
@@ -175,7 +174,7 @@ impl Reader<'_> {
     {
         match fault {
             LineFault::Refused(reason, word) => Ok(self.stopped(reason, line, word)),
-            LineFault::NoMemory => Err(AllocError),
+            LineFault::NoMemory(error) => Err(error),
         }
     }
 
@@ -212,14 +211,11 @@ impl Sheet {
             return Ok(reader.stopped(Reason::TooLong, 1, 1));
         }
         let mut line = 1;
-        let mut at = 0;
-        while let Some(part) = next_line(text, at) {
-            match reader.take(part) {
-                Ok(()) => {}
-                Err(fault) => return reader.halted(fault, line),
+        for (part, _) in Lines::of(text) {
+            if let Err(fault) = reader.take(part) {
+                return reader.halted(fault, line);
             }
             line += 1;
-            at = part.end + 1;
         }
         Ok(reader.ended(line))
     }
