@@ -20,6 +20,7 @@ pub enum Section {
 pub struct Reader<'a> {
     text: &'a [u8],
     job: OpenJob,
+    // Kept as it is: a rule of the project keeps a name as its place in the sheet.
     names: Vec<Part>,
     section: Section,
 }

@@ -21,6 +21,7 @@ impl Reason {
     pub fn number(self) -> u8
         ensures { result ≡ number self }
     {
+        // Kept as it is: a case with a value in it bars numbers at the cases, and the job's numbers are its own.
         match self {
             Reason::TooLong => 25,
             Reason::BadVariable => 26,

@@ -157,14 +157,14 @@ fn end_stop(section: Section, line: usize) -> Option<Stop>
 
 impl Reader<'_> {
     // The sheet as it was when a line was refused.
-    fn stopped(self, reason: Reason, line: usize, word: usize) -> Sheet
-        ensures { outcome_of self.entry.text.now result ≡ outcome (draft_of self.entry) (Some (record { reason = reason; line = line; word = word })) }
+    fn stopped(self, stop: Stop) -> Sheet
+        ensures { outcome_of self.entry.text.now result ≡ outcome (draft_of self.entry) (Some stop) }
     {
         let Reader { job, names, .. } = self;
         Sheet {
             job,
             names,
-            stop: Some(Stop { reason, line, word }),
+            stop: Some(stop),
         }
     }
 
@@ -173,7 +173,7 @@ impl Reader<'_> {
         ensures { Halts fault self.entry.text.now (draft_of self.entry) line result }
     {
         match fault {
-            LineFault::Refused(reason, word) => Ok(self.stopped(reason, line, word)),
+            LineFault::Refused(reason, word) => Ok(self.stopped(Stop { reason, line, word })),
             LineFault::NoMemory(error) => Err(error),
         }
     }
@@ -208,7 +208,11 @@ impl Sheet {
             section: Section::Start,
         };
         if too_long(text) {
-            return Ok(reader.stopped(Reason::TooLong, 1, 1));
+            return Ok(reader.stopped(Stop {
+                reason: Reason::TooLong,
+                line: 1,
+                word: 1,
+            }));
         }
         let mut line = 1;
         for (part, _) in Lines::of(text) {
