@@ -2,11 +2,16 @@
 """Makes a copy of this repository in which the unfinished crates stand in place.
 
 usage: python3 tools/unfinished.py FOLDER     at the top of the repository; FOLDER must not be there yet
+
+The other crates are taken from the commit on which the unfinished ones were proved.
 """
 
 import os
 import shutil
+import subprocess
 import sys
+
+BASE = "7bc6cbd8721b5fc2a63aba3af770c802edf3de68"
 
 
 def lay(source, folder):
@@ -25,7 +30,8 @@ def main():
         sys.exit(__doc__)
     folder = sys.argv[1]
     os.makedirs(folder)
-    shutil.copytree("crates", os.path.join(folder, "crates"), ignore=shutil.ignore_patterns("out"))
+    crates = subprocess.run(["git", "archive", BASE, "crates"], check=True, stdout=subprocess.PIPE).stdout
+    subprocess.run(["tar", "-x", "-C", folder], check=True, input=crates)
     shutil.copyfile("unfinished/crates.list.txt", os.path.join(folder, "crates.txt"))
     for name in sorted(os.listdir("unfinished/crates")):
         lay(os.path.join("unfinished/crates", name), os.path.join(folder, "crates", name))
