@@ -1,25 +1,24 @@
 -- The laws of bounds of which at least one holds. Assumes nothing.
-use Rattle.std.specs.Prelude.{◌≡◌, ℕ, ◌≤◌, true, ◌&&◌, List, [], ◌∷◌, length, take, ◌==◌, nat_le, refl}
+use Rattle.std.specs.Prelude.{◌≡◌, ℕ, ◌≤◌, true, List, [], ◌∷◌, length, take, ◌==◌, refl}
 use Rattle.std.proofs.Common.{sym, ap, subst, arith, lit≤}
 use Rattle.std.specs.List.{AllByRecursion}
 use Rattle.std.proofs.ByRecursion.{All-weaker}
 use Rattle.std.proofs.lemmas.List.{length-map, take_all}
-use Rattle.std.proofs.lemmas.Bool.{false≢true, and_parts, leb-true, or_left, or_right, eq-eqb}
+use Rattle.std.proofs.lemmas.Bool.{false≢true, or_right}
+use Rattle.std.proofs.lemmas.Bool.Decides.{nat_tests}
 use Rattle.order.specs.declared.bound.Bound.{Bound}
 use Rattle.order.specs.Bounds.{holds}
 use Rattle.kinds.specs.declared.item.Item.{Item}
-use Rattle.kinds.specs.declared.item.Item.TheVariants.{Variable, Bounded}
 use Rattle.kinds.specs.Items.{variable_of, names}
 use Rattle.kinds.specs.Meaning.{Lawful, some_holds, Met, Own}
-use Rattle.logical.specs.Any.{bound_of, bounds, bounds_only, at_least_one}
+use Rattle.logical.specs.Any.{bound_of, bounds, at_least_one}
 
 bound_variable : (i : Item) → variable_of i ≡ (bound_of i).variable
-bound_variable (Variable x) = refl
-bound_variable (Bounded b) = refl
+bound_variable i = grind arith
 
 -- the variable of a row's first item is the row's own, and so is each of the other items'
 own_first : (i : Item) (items : List Item) → Own (i ∷ items) (bound_of i)
-own_first i items = or_left (variable_of i == (bound_of i).variable) (names items (bound_of i).variable) (eq-eqb (variable_of i) (bound_of i).variable (bound_variable i))
+own_first i items = let e = bound_variable i in grind (arith, nat_tests)
 
 own_bounds : (items : List Item) → AllByRecursion (Own items) (bounds items)
 own_bounds [] = tt
@@ -35,7 +34,7 @@ some_same u v (b ∷ c) h = let e = holds_same u v b h.0 in let r = some_same u 
 
 module _ (items : List Item) (formed : at_least_one.formed items ≡ true) where
   few : length items ≤ 64
-  few = leb-true (length items) 64 (and_parts (nat_le (length items) 64) (bounds_only items) (and_parts (nat_le 1 (length items)) (nat_le (length items) 64 && bounds_only items) formed).1).0
+  few = grind (arith, nat_tests)
 
   -- the clause has all the bounds
   whole : bounds (take 64 items) ≡ bounds items

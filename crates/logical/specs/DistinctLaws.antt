@@ -1,14 +1,14 @@
 -- The laws of variables that all differ. Assumes nothing.
-use Rattle.std.specs.Prelude.{◌≡◌, ℕ, ◌+◌, ◌-◌, ◌<◌, ◌≤◌, true, false, cond, not, ◌&&◌, List, [], length, ◌==◌, ◌≢◌, nat_le, refl}
+use Rattle.std.specs.Prelude.{◌≡◌, ℕ, ◌+◌, ◌-◌, ◌<◌, ◌≤◌, true, cond, List, [], length, ◌==◌, ◌≢◌, refl}
 use Rattle.std.proofs.Common.{ap, ⊎_elim, arith, lit≤}
 use Rattle.std.specs.List.{AllByRecursion}
-use Rattle.std.proofs.lemmas.Bool.{false≢true, and_parts, leb-true, eqb-false, cases_order, cond_both}
+use Rattle.std.proofs.lemmas.Bool.{false≢true, eqb-false, cases_order, cond_both}
 use Rattle.std.proofs.lemmas.Bool.Decides.{nat_tests}
 use Rattle.order.specs.declared.bound.Bound.{Bound}
 use Rattle.order.specs.declared.range.Range.{Range}
 use Rattle.order.specs.Bounds.{InRange}
 use Rattle.kinds.specs.declared.item.Item.{Item}
-use Rattle.kinds.specs.Items.{var, names, variables_only, Pairing}
+use Rattle.kinds.specs.Items.{var, names, Pairing}
 use Rattle.kinds.specs.Meaning.{Lawful, Met, Follows, Own, OwnPairing, Agree}
 use Rattle.kinds.proofs.Ranging.{all_between_from, between_all, length_between, all_between_at}
 use Rattle.kinds.proofs.Rows.{own_var, agree_low, agree_high}
@@ -17,25 +17,12 @@ use Rattle.logical.specs.Neq.{excludes_each}
 use Rattle.logical.specs.NeqLaws.{apart_sound, apart_complete, apart_own, apart_short, apart_few, apart_same, turn_round, each_follows, each_own, each_short, each_few, each_same}
 use Rattle.logical.specs.Places.{between_same_in, all_same_in, all_from, length_pairs, pairs_most}
 
--- what code finds of two values
-pub same_value : (v : ℕ → ℕ) (x y x' y' m n : ℕ) → x' ≡ x → y' ≡ y → m ≡ v x' → n ≡ v y' → m ≡ n → not (v x == v y) ≡ false
-same_value v x y x' y' m n ex ey em en e =
-    let p : v x ≡ m = cc in
-    let q : v y ≡ n = cc in
-    grind (arith, nat_tests)
-
-pub other_value : (v : ℕ → ℕ) (x y x' y' m n : ℕ) → x' ≡ x → y' ≡ y → m ≡ v x' → n ≡ v y' → (m ≢ n) → not (v x == v y) ≡ true
-other_value v x y x' y' m n ex ey em en e =
-    let p : v x ≡ m = cc in
-    let q : v y ≡ n = cc in
-    grind (arith, nat_tests)
-
 module _ (items : List Item) where
   abbrev many : ℕ
   many = length items
 
   few : distinct.formed items ≡ true → many ≤ 32
-  few formed = leb-true many 32 (and_parts (nat_le many 32) (variables_only items) (and_parts (nat_le 2 many) (nat_le many 32 && variables_only items) formed).1).0
+  few formed = grind (arith, nat_tests)
 
   -- any two places have different values
   module _ (v : ℕ → ℕ) (all : all_differ items v ≡ true) where

@@ -1,8 +1,8 @@
 -- The laws of the greater and the lesser of two variables, for either direction. Assumes nothing.
 use Rattle.std.specs.Prelude.{◌≡◌, ℕ, ◌+◌, ◌*◌, ◌<◌, ◌≤◌, min, max, Bool, true, false, cond, not, ◌||◌, List, length, ◌==◌, nat_eq, nat_le, nat_lt, refl}
-use Rattle.std.proofs.Common.{⊎_elim, le_trans, arith, lit≤}
+use Rattle.std.proofs.Common.{le_trans, arith, lit≤}
 use Rattle.std.specs.List.{AllByRecursion}
-use Rattle.std.proofs.lemmas.Bool.{false≢true, cases_order, eq-eqb}
+use Rattle.std.proofs.lemmas.Bool.{false≢true}
 use Rattle.std.proofs.lemmas.Bool.Decides.{nat_tests}
 use Rattle.order.specs.declared.range.Range.{Range}
 use Rattle.order.specs.Between.{between}
@@ -21,43 +21,28 @@ on down x t = cond down (nat_lt x t) (nat_le t x)
 
 -- the clauses at t, of the values x, y and z
 one_met : (down : Bool) (x y z t : ℕ) → (z == extreme_of down x y) ≡ true → (on (not down) x t || (on down z t || false)) ≡ true
-one_met true x y z t h = grind (arith, nat_tests)
-one_met false x y z t h = grind (arith, nat_tests)
+one_met down x y z t h = grind (arith, nat_tests)
 
 both_met : (down : Bool) (x y z t : ℕ) → (z == extreme_of down x y) ≡ true → (on down x t || (on down y t || (on (not down) z t || false))) ≡ true
-both_met true x y z t h = grind (arith, nat_tests)
-both_met false x y z t h = grind (arith, nat_tests)
+both_met down x y z t h = grind (arith, nat_tests)
 
 by_met : (down : Bool) (x y z t : ℕ) → (on (not down) x t || (on down z t || false)) ≡ true → (on (not down) y t || (on down z t || false)) ≡ true → (on down x t || (on down y t || (on (not down) z t || false))) ≡ true → nat_le t z ≡ nat_le t (extreme_of down x y)
-by_met true x y z t h k m = grind (arith, nat_tests)
-by_met false x y z t h k m = grind (arith, nat_tests)
+by_met down x y z t h k m = grind (arith, nat_tests)
 
 -- where the one does not hold, the other decides
 other_decides : (down : Bool) (x y z t h : ℕ) → y ≤ h → (z == extreme_of down x y) ≡ true → on down y t ≡ nat_le (h + 1) y → on down z t ≡ on down x t
-other_decides true x y z t h l e p = grind (arith, nat_tests)
-other_decides false x y z t h l e p = grind (arith, nat_tests)
+other_decides down x y z t h l e p = grind (arith, nat_tests)
 
 swapped : (down : Bool) (x y z : ℕ) → (z == extreme_of down x y) ≡ true → (z == extreme_of down y x) ≡ true
-swapped true x y z h = grind (arith, nat_tests)
-swapped false x y z h = grind (arith, nat_tests)
+swapped down x y z h = grind (arith, nat_tests)
 
 -- what is chosen from two numbers lies where they do
 chosen_within : (down : Bool) (l h x y : ℕ) → l ≤ x → l ≤ y → x ≤ h → y ≤ h → (l ≤ extreme_of down x y) × (extreme_of down x y ≤ h)
-chosen_within true l h x y lx ly xh yh = (omega arith, omega arith)
-chosen_within false l h x y lx ly xh yh = (omega arith, omega arith)
+chosen_within down l h x y lx ly xh yh = (grind (arith, nat_tests), grind (arith, nat_tests))
 
 -- numbers that reach the same thresholds from l + 1 to h are equal
 same_reach : (l h z w : ℕ) → l ≤ z → l ≤ w → z ≤ h → w ≤ h → ((t : ℕ) → l + 1 ≤ t → t < h + 1 → nat_le t z ≡ nat_le t w) → (z == w) ≡ true
-same_reach l h z w lz lw zh wh at =
-    ⊎_elim (eq-eqb z w)
-    (⊎_elim (λ p. less z w p (at w (omega arith) (omega arith))) (λ p. more z w p (at z (omega arith) (omega arith))))
-    (cases_order z w)
-  where
-    less : (z w : ℕ) → z < w → nat_le w z ≡ nat_le w w → (z == w) ≡ true
-    less z w p e = grind (arith, nat_tests)
-
-    more : (z w : ℕ) → w < z → nat_le z z ≡ nat_le z w → (z == w) ≡ true
-    more z w p e = grind (arith, nat_tests)
+same_reach l h z w lz lw zh wh at = let below = at z in let above = at w in grind (arith, nat_tests)
 
 module _ (down : Bool) (rs : List Range) (a b c : ℕ) where
   -- what holds of the clauses, or the pairings, of each threshold

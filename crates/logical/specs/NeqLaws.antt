@@ -1,5 +1,5 @@
 -- The laws of two variables that differ. Assumes nothing.
-use Rattle.std.specs.Prelude.{◌≡◌, ℕ, ◌+◌, ◌*◌, ◌≤◌, true, false, not, ◌||◌, List, length, ◌==◌, ◌≢◌, nat_le, nat_lt, refl}
+use Rattle.std.specs.Prelude.{◌≡◌, ℕ, ◌+◌, ◌*◌, ◌≤◌, true, false, not, ◌||◌, List, length, ◌==◌, nat_le, nat_lt, refl}
 use Rattle.std.proofs.Common.{⊎_elim, le_trans, arith, lit≤}
 use Rattle.std.specs.List.{AllByRecursion}
 use Rattle.std.proofs.lemmas.Bool.{false≢true, cases_eq}
@@ -21,9 +21,6 @@ met_by x y t h = grind (arith, nat_tests)
 
 by_met : (x y : ℕ) → x ≡ y → (nat_lt x x || (nat_le (x + 1) x || (nat_lt y x || (nat_le (x + 1) y || false)))) ≡ true → not (x == y) ≡ true
 by_met x y e h = grind (arith, nat_tests)
-
-differ : (x y : ℕ) → (x ≢ y) → not (x == y) ≡ true
-differ x y h = grind (arith, nat_tests)
 
 -- the pairings at t: where x, from l to h, is t; where x and y reach t and t + 1 alike, or each in the other's place
 excluded : (l h x y t : ℕ) → not (x == y) ≡ true → l ≤ x → x ≤ h → nat_le t x ≡ nat_le l x → nat_le (t + 1) x ≡ nat_le (h + 1) x → nat_le t y ≡ nat_le (t + 1) y
@@ -54,7 +51,7 @@ module _ (rs : List Range) (a b : ℕ) where
     apart_complete within all =
         ⊎_elim
         (λ e. by_met (v a) (v b) e (between_all (not_both a b) (Met v) (shared_from rs a b) (shared_past rs a b) all (v a) (omega (arith, within.above a, within.above b)) (omega (arith, within.below a, within.below b))).0)
-        (differ (v a) (v b))
+        (λ ne. grind (arith, nat_tests))
         (cases_eq (v a) (v b))
 
     excludes_follows : InRange rs v → not (v a == v b) ≡ true → (t : ℕ) → Follows v (excludes rs a b t)

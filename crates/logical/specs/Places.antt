@@ -38,10 +38,7 @@ pairs (suc n) = n + pairs n
 
 pub pairs_most : (n k : ℕ) → n ≤ k → pairs n ≤ pairs k
 pairs_most zero k h = zero-le
-pairs_most (suc n) zero h = absurd (none n h)
-  where
-    none : (n : ℕ) → suc n ≤ 0 → ⊥
-    none n h = omega arith
+pairs_most (suc n) zero h = absurd (omega arith)
 pairs_most (suc n) (suc k) h = omega (arith, pairs_most n k (omega arith))
 
 -- m for each pair of a number and a greater one below the end

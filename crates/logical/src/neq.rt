@@ -1,6 +1,5 @@
 //! Two variables that differ.
-ghost use Rattle.std.specs.Prelude.{◌≡◌, ◌+◌, ◌<◌, false, [], ◌∷◌, refl};
-ghost use Rattle.std.specs.Range.{range_inclusive_start, range_inclusive_end, range_inclusive_exhausted};
+ghost use Rattle.std.specs.Prelude.{◌≡◌, ◌+◌, ◌^◌, ◌<◌, ◌≤◌, [], ◌∷◌, refl};
 ghost use Rattle.order.specs.Visits.{After};
 ghost use Rattle.kinds.specs.Items.{var};
 ghost use Rattle.logical.specs.Neq.{neq, shared_from, shared_past, not_both, apart, skips, settled_in, excludes_each, alike, mirrored, apart_pairings};
@@ -13,7 +12,7 @@ use kinds::reading;
 use order::bound::Bound;
 use order::range::Range;
 use order::visit::Visitor;
-use std::ops::RangeInclusive;
+use std::ops;
 
 /// A and B differ.
 pub struct Neq;
@@ -38,27 +37,28 @@ impl Pair {
     }
 
     // The values that A and B can both have.
-    fn shared(self, ranges: &[Range]) -> RangeInclusive<u8>
-        ensures from { range_inclusive_start result ≡ shared_from ranges.now self.a self.b }
-        ensures past { range_inclusive_end result + 1 ≡ shared_past ranges.now self.a self.b }
-        ensures fresh { range_inclusive_exhausted result ≡ false }
+    fn shared(self, ranges: &[Range]) -> ops::Range<u16>
+        ensures from { result.start ≡ shared_from ranges.now self.a self.b }
+        ensures past { result.end ≡ shared_past ranges.now self.a self.b }
+        ensures small { result.end ≤ 256 }
     {
         let of_a = reading::range_of(ranges, self.a);
         let of_b = reading::range_of(ranges, self.b);
-        of_a.low().max(of_b.low())..=of_a.high().min(of_b.high())
+        let low = of_a.low().max(of_b.low());
+        let high = of_a.high().min(of_b.high());
+        u16::from(low)..u16::from(high) + 1
     }
 
     // Shows the visitor that A and B are not both v.
-    fn visit_not_both<V: Visitor>(self, v: u8, visitor: &mut V)
+    fn visit_not_both<V: Visitor>(self, v: u16, visitor: &mut V)
+        requires { v + 1 < 2 ^ 16 }
         ensures { After V.Visitor.step visitor.old (not_both self.a self.b v) visitor.new }
     {
-        let from = u16::from(v);
-        let over = from + 1;
         visitor.visit(&[
-            Bound::below(self.a, from),
-            Bound::at_least(self.a, over),
-            Bound::below(self.b, from),
-            Bound::at_least(self.b, over),
+            Bound::below(self.a, v),
+            Bound::at_least(self.a, v + 1),
+            Bound::below(self.b, v),
+            Bound::at_least(self.b, v + 1),
         ]);
     }
 
@@ -79,27 +79,25 @@ impl Pair {
     {
         let of_a = reading::range_of(ranges, self.a);
         for v in self.shared(ranges) {
-            let v = u16::from(v);
             listener.hear(&settled(of_a, self.a, v), skips(self.b, v));
         }
     }
 
     // Tells the listener that A is not v where A is v exactly when B is.
-    fn tell_matches<L: Listener>(self, v: u8, listener: &mut L)
+    fn tell_matches<L: Listener>(self, v: u16, listener: &mut L)
+        requires { v + 1 < 2 ^ 16 }
         ensures { After L.Listener.hears listener.old (alike self.a self.b v ∷ mirrored self.a self.b v ∷ []) listener.new }
     {
-        let from = u16::from(v);
-        let over = from + 1;
-        let from_a = Bound::at_least(self.a, from);
-        let over_a = Bound::at_least(self.a, over);
+        let from_a = Bound::at_least(self.a, v);
+        let over_a = Bound::at_least(self.a, v + 1);
         let gives = Tie::between(from_a, over_a);
         let same = [
-            Tie::between(from_a, Bound::at_least(self.b, from)),
-            Tie::between(over_a, Bound::at_least(self.b, over)),
+            Tie::between(from_a, Bound::at_least(self.b, v)),
+            Tie::between(over_a, Bound::at_least(self.b, v + 1)),
         ];
         let turned = [
-            Tie::between(from_a, Bound::below(self.b, over)),
-            Tie::between(over_a, Bound::below(self.b, from)),
+            Tie::between(from_a, Bound::below(self.b, v + 1)),
+            Tie::between(over_a, Bound::below(self.b, v)),
         ];
         listener.hear(&same, gives);
         listener.hear(&turned, gives);
@@ -112,11 +110,10 @@ impl Pair {
     {
         let of_a = reading::range_of(ranges, self.a);
         let of_b = reading::range_of(ranges, self.b);
-        for value in self.shared(ranges) {
-            let v = u16::from(value);
+        for v in self.shared(ranges) {
             listener.hear(&settled(of_a, self.a, v), skips(self.b, v));
             listener.hear(&settled(of_b, self.b, v), skips(self.a, v));
-            self.tell_matches(value, listener);
+            self.tell_matches(v, listener);
         }
     }
 }

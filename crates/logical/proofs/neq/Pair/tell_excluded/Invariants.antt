@@ -1,8 +1,9 @@
-use Rattle.std.specs.Range.{range_inclusive_start}
+use Rattle.std.proofs.Common.{◌≤◌}
 use Rattle.logical.specs.Neq.{excluded_at, excludes_each}
-use Rattle.logical.proofs.Loops.{Leads, past}
+use Rattle.logical.proofs.Loops.{Leads}
 use Rattle.logical.proofs.neq.Pair.tell_excluded.Given as goal
 
 abbrev pub invariant-loop-v : goal.invariant-loop-v
 invariant-loop-v g l =
-    Leads g.L.Listener.hears (excluded_at l.ranges l.self.a l.self.b) (range_inclusive_start l.v-iterator) (past l.v-iterator) l.listener (excludes_each l.ranges l.self.a l.self.b) l.initial.listener
+    Leads g.L.Listener.hears (excluded_at l.ranges l.self.a l.self.b) l.v-iterator.start l.v-iterator.end l.listener (excludes_each l.ranges l.self.a l.self.b) l.initial.listener
+    × (l.v-iterator.end ≤ 256)
