@@ -1,38 +1,33 @@
--- The value of a variable, counted bit by bit. Assumes nothing.
-use Rattle.std.proofs.Common.{◌≡◌, ℕ, suc, ◌+◌, ◌-◌, ◌≤◌, Bool, cond, List, max, ap, ◌∙◌, arith}
+-- The value of a variable, counted threshold by threshold. Assumes nothing.
+use Rattle.std.proofs.Common.{◌≡◌, ℕ, zero, suc, ◌+◌, ◌<◌, Bool, cond, List, count_by, refl, ap, ◌∙◌, arith}
+use Rattle.std.specs.List.{range_with_len}
+use Rattle.std.proofs.lemmas.List.Sums.{sum_by-cons}
 use Rattle.order.specs.declared.range.Range.{Range}
 use Rattle.order.specs.Bounds.{reach}
 use Rattle.order.specs.Literals.{truth}
-use Rattle.order.specs.Ranges.{low, high, width, first}
+use Rattle.order.specs.Ranges.{low, width, first}
 use Rattle.ties.specs.Roots.{count_below}
-use Rattle.kinds.proofs.Rows.{range_ordered}
 use Rattle.theory.specs.Values.{value}
-use Rattle.theory.proofs.Falling.{count_most}
 use Rattle.theory.proofs.Order.{reach_inside}
 
--- the low of x, and one for each true bit among its first k
-abbrev pub counted : List Range → (ℕ → Bool) → ℕ → ℕ → ℕ
-counted rs β x k = low rs x + count_below (λ j. β (first rs x + suc j)) k
+count_front : (q : ℕ → Bool) (n : ℕ) → count_below q (suc n) ≡ cond (q 0) 1 0 + count_below (λ k. q (suc k)) n
+count_front q zero = omega arith
+count_front q (suc n) = omega (arith, count_front q n)
 
--- one for a true bit
-abbrev pub one_if : Bool → ℕ
-one_if b = cond b 1 0
+-- p counts from a on what q counts from 0 on
+count_from : (p q : ℕ → Bool) (a n : ℕ) → ((k : ℕ) → k < n → p (a + k) ≡ q k) → count_by p (range_with_len a n) ≡ count_below q n
+count_from p q a zero same = refl
+count_from p q a (suc n) same =
+    let here : p a ≡ q 0 = ap p (omega arith) ∙ same 0 (omega arith) in
+    let rest = count_from p (λ k. q (suc k)) (a + 1) n (λ k l. ap p (omega arith) ∙ same (suc k) (omega arith)) in
+    omega (arith, sum_by-cons (λ t. cond (p t) 1 0) a (range_with_len (a + 1) n), rest, ap {B = ℕ} (λ b. cond b 1 0) here, count_front q n)
 
-module _ (rs : List Range) (β : ℕ → Bool) (x : ℕ) where
-  pub counted_most : (k : ℕ) → counted rs β x k ≤ low rs x + k
-  counted_most k = omega (arith, count_most (λ j. β (first rs x + suc j)) k)
+-- whether X reaches t
+abbrev pub reached : List Range → (ℕ → Bool) → ℕ → ℕ → Bool
+reached rs β x t = truth β (reach rs x t)
 
-  module _ (l h : ℕ) (lo : l ≡ low rs x) (hi : h ≡ high rs x) where
-    -- a loop that counts: its turn, and its end
-    pub counted_more : (t : ℕ) (b : Bool) → l + 1 ≤ t → t ≤ h → b ≡ truth β (reach rs x t) → counted rs β x (t + 1 - (l + 1)) ≡ counted rs β x (t - (l + 1)) + one_if b
-    counted_more t b above below e =
-        let k : ℕ = t - (l + 1) in
-        let next : t + 1 - (l + 1) ≡ suc k = omega arith in
-        let place : t - low rs x ≡ suc k = omega arith in
-        let bit : b ≡ β (first rs x + suc k) = e ∙ ap (truth β) (reach_inside rs x t (omega arith) (omega arith)) ∙ ap (λ n. β (first rs x + n)) place in
-        ap (counted rs β x) next ∙ omega (arith, ap one_if bit)
-
-    pub counted_all : (t : ℕ) → h + 1 ≤ t → t ≤ max (l + 1) (h + 1) → counted rs β x (t - (l + 1)) ≡ value rs β x
-    counted_all t past most =
-        let all : t - (l + 1) ≡ width rs x = omega (arith, range_ordered rs x) in
-        ap (counted rs β x) all
+pub value_counts : (rs : List Range) (β : ℕ → Bool) (x : ℕ) → low rs x + count_by (reached rs β x) (range_with_len (low rs x + 1) (width rs x)) ≡ value rs β x
+value_counts rs β x =
+    let bit : (k : ℕ) → k < width rs x → reached rs β x (low rs x + 1 + k) ≡ β (first rs x + suc k) =
+    λ k l. ap (truth β) (reach_inside rs x (low rs x + 1 + k) (omega arith) (omega arith)) ∙ ap (λ n. β (first rs x + n)) (omega arith) in
+    omega (arith, count_from (reached rs β x) (λ k. β (first rs x + suc k)) (low rs x + 1) (width rs x) bit)

@@ -17,10 +17,7 @@ use ties::classes::Ties;
 fn number_truth(truths: &[bool], number: u16) -> bool
     ensures { result ≡ number_at truths.now number }
 {
-    match truths.get(usize::from(number)) {
-        Some(truth) => *truth,
-        None => false,
-    }
+    truths.get(usize::from(number)).copied().unwrap_or(false)
 }
 
 /// The truth of a literal, by the truth of each bit.
@@ -39,13 +36,11 @@ pub fn literal_truth(bits: &[bool], literal: Literal) -> bool
 fn bit_truth(bits: &[bool], bit: u16) -> bool
     ensures { result ≡ bit_at bits.now bit }
 {
-    if bit == 0 {
-        return false;
-    }
-    match bits.get(usize::from(bit) - 1) {
-        Some(truth) => *truth,
-        None => false,
-    }
+    usize::from(bit)
+        .checked_sub(1)
+        .and_then(|place| bits.get(place))
+        .copied()
+        .unwrap_or(false)
 }
 
 /// The truth of each bit, from the truth of the file's numbers: that of its root.

@@ -3,4 +3,5 @@
 
 pub mod bits;
 pub mod judging;
+pub mod shown;
 pub mod values;

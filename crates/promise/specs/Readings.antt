@@ -1,5 +1,5 @@
 -- Reading an answer on a closed job. Assumes nothing.
-use Rattle.std.specs.Prelude.{ℕ, zero, suc, ◌+◌, Bool, cond, not, ◌||◌, List, [], ◌∷◌, ◌++◌, length, drop, Some, None, Ok, Err, Option, Result, nat_le}
+use Rattle.std.specs.Prelude.{ℕ, zero, suc, ◌+◌, Bool, cond, not, ◌||◌, List, [], ◌∷◌, ◌++◌, length, drop, count_by, Some, None, Ok, Err, Option, Result, nat_le}
 use Rattle.order.specs.declared.range.Range.{Range}
 use Rattle.order.specs.Bounds.{reach}
 use Rattle.order.specs.Literals.{truth}
@@ -76,8 +76,7 @@ assignment_in text = says (literals_in text)
 
 -- how many variables are declared
 abbrev pub count_declared : List Bool → ℕ
-count_declared [] = 0
-count_declared (d ∷ ds) = cond d 1 0 + count_declared ds
+count_declared ds = count_by (λ d. d) ds
 
 -- the first refusal of two, else accepted
 abbrev pub decided : Option ReadRefusal → Option ReadRefusal → Reading

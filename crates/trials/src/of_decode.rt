@@ -1,7 +1,8 @@
 //! From the truth of numbers to values.
 use decode::bits::bit_truths;
-use decode::judging::{first_unmet, first_unordered};
-use decode::values::{all_values, count_declared, put_declared};
+use decode::judging::first_unmet;
+use decode::shown::Shown;
+use decode::values::{count_declared, put_declared};
 use kinds::item::Item;
 use kinds::kinds::End;
 use linear::base::Base;
@@ -30,8 +31,12 @@ fn values_are_read(rt: HostRuntime) -> Result<(), Fail> {
     let mut ties = Ties::new(heap);
     ties.grow(5)?;
     let bits = bit_truths(heap, &ties, &[false, true, false, true, true, false])?;
-    assert!(rt; first_unordered(&variables, bits.as_slice()).is_none());
-    let values = all_values(heap, &variables, bits.as_slice())?;
+    let shown = Shown {
+        variables: &variables,
+        bits: bits.as_slice(),
+    };
+    assert!(rt; shown.first_unordered().is_none());
+    let values = shown.all_values(heap)?;
     assert!(rt; values.as_slice() == [3, 9].as_slice());
     let declared = [false, true];
     assert_eq!(rt; count_declared(&declared), 1);
@@ -45,10 +50,11 @@ fn values_are_read(rt: HostRuntime) -> Result<(), Fail> {
 fn the_first_at_fault_is_named(rt: HostRuntime) -> Result<(), Fail> {
     let heap = rt.alloc();
     let variables = two_variables(heap)?;
-    assert_eq!(rt;
-        first_unordered(&variables, &[true, false, false, true, false]),
-        Some(1)
-    );
+    let shown = Shown {
+        variables: &variables,
+        bits: &[true, false, false, true, false],
+    };
+    assert_eq!(rt; shown.first_unordered(), Some(1));
     let mut rows = Rows::new(heap);
     rows.add(2, &[Item::Variable(0), Item::Variable(1)])?;
     rows.add(2, &[Item::Variable(1), Item::Variable(0)])?;

@@ -1,24 +1,16 @@
-use Rattle.std.proofs.Common.{◌<◌, length, arith}
+use Rattle.std.proofs.Common.{ℕ, Bool, rules, tests, not, length, sym, refl, ◌∙◌, arith}
+use Rattle.std.proofs.lemmas.Iterator.{YieldsList-from_range}
+use Rattle.std.proofs.lemmas.Iterator.Adapters.{option_map_id}
+use Rattle.std.proofs.lemmas.Iterator.Search.{find_from_yields_List}
 use Rattle.kinds.specs.Meaning.{valued}
 use Rattle.rows.specs.Rows.{rows_of, posted}
-use Rattle.decode.proofs.Failing.{first_here, first_later}
-use Rattle.decode.proofs.ReadSteps.{row_read}
+use Rattle.decode.proofs.Failing.{first_is_find}
 use Rattle.decode.proofs.judging.first_unmet.Goals as goal
 
-pub returns-then-not-met : goal.returns-then-not-met
-returns-then-not-met g c =
+pub returns : goal.returns
+returns g c =
     let rows = rows_of c.args.rows.now in
-    let v = valued c.args.values.now in
-    let place = c.loop-place.place in
-    let inside : place < length rows = omega (arith, c.len-place-end.ensures) in
-    first_here (λ p. (g.K.Kinds.meaning (posted rows p).code).meets (posted rows p).items v) (length rows) place inside c.loop-place.invariant
-    (row_read g.K.Kinds.meaning (posted rows place) v _ _ _ _ c.code.ensures c.items.ensures c.met.ensures c.if-not-met.true)
-
-pub loop-place-preserved : goal.loop-place-preserved
-loop-place-preserved g c =
-    let rows = rows_of c.args.rows.now in
-    let v = valued c.args.values.now in
-    let place = c.loop-place.place in
-    let inside : place < length rows = omega (arith, c.len-place-end.ensures) in
-    first_later (λ p. (g.K.Kinds.meaning (posted rows p).code).meets (posted rows p).items v) (length rows) place inside c.loop-place.invariant
-    (row_read g.K.Kinds.meaning (posted rows place) v _ _ _ _ c.code.ensures c.items.ensures c.met.ensures c.if-not-met.false)
+    let test : ℕ → Bool = λ p. (g.K.Kinds.meaning (posted rows p).code).meets (posted rows p).items (valued c.args.values.now) in
+    sym (option_map_id _)
+    ∙ find_from_yields_List (λ x. not (test x)) _ _ _ c.find.ensures.ran (YieldsList-from_range 0 _ (length rows) refl (omega (arith, c.len.ensures))) (λ x b q k. search (rules, tests))
+    ∙ sym (first_is_find test 0 (length rows))
