@@ -1,8 +1,14 @@
 -- Lists and tests over a list's places from n on, as over what is left of the list. Assumes nothing.
-use Rattle.std.proofs.Common.{◌≡◌, ℕ, zero, suc, ◌+◌, ◌-◌, Bool, ◌&&◌, List, [], ◌∷◌, ◌++◌, length, get_or, drop, refl, ap, ◌∙◌, arith}
+use Rattle.std.proofs.Common.{◌≡◌, ℕ, zero, suc, ◌+◌, ◌-◌, Bool, ◌&&◌, List, [], ◌∷◌, ◌++◌, length, get_or, take, drop, refl, sym, ap, ◌∙◌, arith}
 use Rattle.std.specs.List.{list_all, range_with_len}
-use Rattle.std.proofs.lemmas.List.{at_drop_more, at_drop_all}
+use Rattle.std.proofs.lemmas.List.{at_drop_more, at_drop_all, take_rest}
 use Rattle.order.specs.Between.{run, between, joined}
+use Rattle.order.specs.declared.range.Range.{Range}
+use Rattle.kinds.specs.declared.item.Item.{Item}
+use Rattle.kinds.specs.declared.item.Item.TheVariants.{Variable}
+use Rattle.kinds.specs.Items.{var}
+use Rattle.logical.specs.Distinct.{apart_from, apart_later}
+use Rattle.logical.proofs.Loops.{Leads, at, begin}
 use Rattle.kinds.specs.Tests.{every, all_between}
 
 -- a list's fold G, and R over its places, which takes the same steps
@@ -16,6 +22,17 @@ over_places G step xs d R more none next (suc m) n e =
 
 pub joined_from : {X Y : Type 0} (F : X → List Y) (xs : List X) (d : X) (n : ℕ) → joined F (drop n xs) ≡ between (λ k. F (get_or xs k d)) n (length xs)
 joined_from F xs d n = over_places (joined F) (λ x ys. F x ++ ys) xs d (run (λ k. F (get_or xs k d))) (λ _ _. refl) (λ _. refl) (λ _ _. refl) (length xs - n) n refl
+
+-- a loop over a list begins with all of it left
+pub begin_list : {S C X : Type 0} (step : S → C → S → Type 0) (F : X → List C) (xs : List X) (d : X) (s : S) → Leads step (at F xs d) 0 (length xs) s (joined F xs) s
+begin_list step F xs d s = begin (sym (joined_from F xs d 0))
+
+-- the items after p, which A stands before
+pub apart_rest : (rs : List Range) (a : ℕ) (items : List Item) (p : ℕ) → a ≡ var items p → joined (apart_from rs a) (take (length items - (p + 1)) (drop (p + 1) items)) ≡ apart_later items rs p
+apart_rest rs a items p e =
+    ap (joined (apart_from rs a)) (take_rest items (p + 1))
+    ∙ ap (λ x. joined (apart_from rs x) (drop (p + 1) items)) e
+    ∙ joined_from (apart_from rs (var items p)) items (Variable 0) (p + 1)
 
 pub all_from : {X : Type 0} (p : X → Bool) (xs : List X) (d : X) (n : ℕ) → list_all p (drop n xs) ≡ all_between (λ k. p (get_or xs k d)) n (length xs)
 all_from p xs d n = over_places (list_all p) (λ x b. p x && b) xs d (every (λ k. p (get_or xs k d))) (λ _ _. refl) (λ _. refl) (λ _ _. refl) (length xs - n) n refl

@@ -28,7 +28,7 @@ fn differs_later(items: &[Item], values: &[u8], p: usize) -> bool
 }
 
 // Shows the visitor that A differs from each of the later items.
-#[tactic(auto, using(crate::proofs::Loops::next))]
+#[tactic(auto, using(crate::proofs::Loops::next, crate::proofs::OverLists::begin_list))]
 fn visit_later<V: Visitor>(a: u16, later: &[Item], ranges: &[Range], visitor: &mut V)
     ensures { After V.Visitor.step visitor.old (joined (apart_from ranges.now a) later.now) visitor.new }
 {
@@ -79,7 +79,7 @@ impl Kind for Distinct {
         (0..items.len()).all(|p| differs_later(items, values, p))
     }
 
-    #[tactic(auto, using(crate::proofs::Loops::next))]
+    #[tactic(auto, using(crate::proofs::Loops::next, crate::proofs::OverLists::apart_rest))]
     fn visit_clauses<V: Visitor>(items: &[Item], ranges: &[Range], visitor: &mut V) {
         for (p, item) in items.iter().enumerate() {
             visit_later(item.variable(), &items[p + 1..], ranges, visitor);
