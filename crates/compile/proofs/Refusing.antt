@@ -5,8 +5,7 @@ use Rattle.calls.specs.declared.refusal.Refusal.{Refusal}
 use Rattle.job.specs.Writes.{writing}
 use Rattle.sheet.specs.Sheets.{reading}
 use Rattle.sink.specs.Text.{text_costs}
-use Rattle.sink.specs.Views.{fresh}
-use Rattle.sink.specs.declared.text.TextSink.{TextSink}
+use Rattle.sink.specs.Views.{TextSink, fresh}
 use Rattle.compile.specs.Compiles.{Compiles}
 use Rattle.compile.specs.declared.refused.CompileError.{CompileError}
 use Rattle.compile.specs.declared.refused.CompileError.TheVariants.{Refused}

@@ -1,10 +1,9 @@
 -- What a sheet comes to. Assumes nothing.
 use Rattle.std.specs.Prelude.{◌≡◌, ℕ, List, Some, None, Ok, Err, Result}
 use Rattle.sink.specs.Text.{text_costs}
-use Rattle.sink.specs.Views.{text_state, fresh}
+use Rattle.sink.specs.Views.{TextSink, text_state, fresh}
 use Rattle.job.specs.Writes.{writing}
 use Rattle.sink.specs.declared.header.Header.{Header}
-use Rattle.sink.specs.declared.text.TextSink.{TextSink}
 use Rattle.sheet.specs.Sheets.{reading}
 use Rattle.compile.specs.declared.refused.CompileError.{CompileError}
 use Rattle.compile.specs.declared.refused.CompileError.TheVariants.{Refused, NoMemory}

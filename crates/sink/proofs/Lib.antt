@@ -1,4 +1,1 @@
-pub mod Appending
 pub mod Numerals
-pub mod Properness
-pub mod Taking

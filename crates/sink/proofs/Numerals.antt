@@ -9,15 +9,6 @@ length_one n h = ap length (decimal_digit n h)
 pub length_step : (n : ℕ) → 10 ≤ n → n < 2 ^ 64 → length (decimal n) ≡ length (decimal (n / 10)) + 1
 length_step n h f = ap length (decimal_step n h f) ∙ length_push (decimal (n / 10)) (48 + n % 10)
 
-pub length_two : (n : ℕ) → 10 ≤ n → n < 100 → length (decimal n) ≡ 2
-length_two n h l = omega (arith, length_step n h (omega arith), length_one (n / 10) (omega arith))
-
-pub length_three : (n : ℕ) → 100 ≤ n → n < 1000 → length (decimal n) ≡ 3
-length_three n h l = omega (arith, length_step n (omega arith) (omega arith), length_two (n / 10) (omega arith) (omega arith))
-
-pub length_four : (n : ℕ) → 1000 ≤ n → n < 10000 → length (decimal n) ≡ 4
-length_four n h l = omega (arith, length_step n (omega arith) (omega arith), length_three (n / 10) (omega arith) (omega arith))
-
 -- four digits off
 pub length_more : (n : ℕ) → 10000 ≤ n → n < 2 ^ 64 → length (decimal n) ≡ 4 + length (decimal (n / 10000))
 length_more n h f =
@@ -34,3 +25,5 @@ decimal_one n h = decimal_digit n h ∙ ap (λ k. (48 + k) ∷ []) (omega arith)
 
 pub length_small : (n : ℕ) → n < 2 ^ 32 → length (decimal n) ≤ 10
 length_small n h = length-decimal-le 10 n (omega arith) (omega arith) (omega arith)
+
+pub ruleset lengths = (length_small, length_one, length_step, length_more)

@@ -1,7 +1,7 @@
 pub mod Buffers
-pub mod HeaderWords
 pub mod Limits
 pub mod Sinks
+pub mod Files
 pub mod Text
 pub mod Views
 pub mod Wordwise

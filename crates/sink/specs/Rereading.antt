@@ -1,10 +1,10 @@
 -- A clause that is written is read again, and a header's line holds no clause.
-use Rattle.std.specs.Prelude.{◌≡◌, ℕ, ◌^◌, ◌<◌, ◌≤◌, Bool, true, false, cond, ◌&&◌, List, [], ◌∷◌, ◌++◌, map, length, drop, Some, codes, decimal, ◌==◌, nat_le, nat_lt, refl}
+use Rattle.std.specs.Prelude.{◌≡◌, ℕ, ◌^◌, ◌<◌, ◌≤◌, Bool, true, false, cond, List, [], ◌∷◌, ◌++◌, map, length, drop, Some, codes, decimal, ◌==◌, refl}
 use Rattle.std.proofs.Common.{sym, ap, subst, ◌∙◌, arith, rules}
 use Rattle.std.proofs.lemmas.Fmt.{decimal_nonempty, digits_decimal, digits_value-decimal}
-use Rattle.std.proofs.lemmas.List.{append-nil, append_assoc, drop-append-le, map-append}
+use Rattle.std.proofs.lemmas.List.{append-nil, append_assoc, drop-append-le, map-append, flat_map_more}
 use Rattle.std.proofs.lemmas.Str.Parse.{IsNumeralModel, numerals_by_fold}
-use Rattle.std.proofs.lemmas.Bool.{and_parts, leb-true}
+use Rattle.std.proofs.lemmas.Bool.{and_parts}
 use Rattle.std.proofs.lemmas.Bool.Decides.{nat_tests}
 use Rattle.words.specs.Split.{split, lines, words}
 use Rattle.words.specs.Shapes.{is_digit, all_digits, digits_after, number}
@@ -62,8 +62,8 @@ Small (l ∷ ls) = (l.variable < 2 ^ 64) × Small ls
 pub small_from_proper : (v : ℕ) (c : List Lit) → v < 2 ^ 64 → proper_lits v c ≡ true → Small c
 small_from_proper v [] f p = tt
 small_from_proper v (l ∷ c) f p =
-    let e = and_parts (nat_lt 0 l.variable && nat_le l.variable v) (proper_lits v c) p in
-    let low : l.variable ≤ v = leb-true l.variable v (and_parts (nat_lt 0 l.variable) (nat_le l.variable v) e.0).1 in
+    let e = and_parts _ (proper_lits v c) p in
+    let low : l.variable ≤ v = grind (arith, nat_tests) in
     (omega arith, small_from_proper v c f e.1)
 
 -- a clause's line, without its LF
@@ -126,23 +126,14 @@ lines_end p (c ∷ cs) =
     (r.0, sym (append_assoc (p ++ 10 ∷ []) (clause_line c) (clause_lines cs)) ∙ ap (λ t. t ++ clause_lines cs) (ap (λ t. p ++ 10 ∷ [] ++ t) (sym (clause_ends c)) ∙ sym (append_assoc (p ++ 10 ∷ []) (body c) (10 ∷ []))) ∙ r.1)
 
 -- one clause more, in the clauses that a file holds
-pub clauses_more : (text : List ℕ) (h : Header) (cs : List (List Lit)) (c : List Lit) → text ≡ file (Some h) cs → Small c → clauses_in (text ++ clause_line c) ≡ clauses_in text ++ c ∷ []
-clauses_more text h cs c e s =
+pub clauses_more : (h : Header) (cs : List (List Lit)) (c : List Lit) → Small c → clauses_in (file (Some h) (cs ++ c ∷ [])) ≡ clauses_in (file (Some h) cs) ++ c ∷ []
+clauses_more h cs c s =
+    let text = file (Some h) cs in
     let r = lines_end (header_body h) cs in
-    let f : text ≡ r.0 ++ 10 ∷ [] = e ∙ r.1 in
-    ap (λ t. clauses_in (t ++ clause_line c)) f
+    let f : text ≡ r.0 ++ 10 ∷ [] = r.1 in
+    ap clauses_in (sym (flat_map_more clause_line (header_line h) cs c))
+    ∙ ap (λ t. clauses_in (t ++ clause_line c)) f
     ∙ ap clauses_in (append_assoc r.0 (10 ∷ []) (clause_line c))
     ∙ clauses_append r.0 (clause_line c)
     ∙ ap (λ t. clauses_in t ++ map clause_of (lines (clause_line c))) (sym f)
     ∙ ap (λ ls. clauses_in text ++ ls) (clause_again c s)
-
-clause_lines_more : (cs : List (List Lit)) (c : List Lit) → clause_lines (cs ++ c ∷ []) ≡ clause_lines cs ++ clause_line c
-clause_lines_more [] c = append-nil (clause_line c)
-clause_lines_more (d ∷ cs) c = ap (λ t. clause_line d ++ t) (clause_lines_more cs c) ∙ sym (append_assoc (clause_line d) (clause_lines cs) (clause_line c))
-
--- one clause more, in the file
-pub file_more : (text : List ℕ) (h : Header) (c : List Lit) → text ≡ file (Some h) (clauses_in text) → Small c → text ++ clause_line c ≡ file (Some h) (clauses_in (text ++ clause_line c))
-file_more text h c e s =
-    ap (λ t. t ++ clause_line c) e
-    ∙ append_assoc (header_line h) (clause_lines (clauses_in text)) (clause_line c)
-    ∙ ap (λ t. header_line h ++ t) (sym (clause_lines_more (clauses_in text) c) ∙ ap clause_lines (sym (clauses_more text h (clauses_in text) c e s)))

@@ -1,5 +1,6 @@
 -- What a sink holds, what it takes, and what is left of it then. Assumes nothing.
 use Rattle.std.specs.Prelude.{◌≡◌, ℕ, ◌-◌, ◌≤◌, min, Bool, true, false, cond, not, ◌&&◌, List, [], ◌∷◌, ◌++◌, length, is_some, Some, None, Option, nat_le, nat_lt}
+use Rattle.std.specs.List.{list_all}
 use Rattle.sink.specs.declared.header.Header.{Header}
 use Rattle.sink.specs.declared.lit.Lit.{Lit}
 
@@ -20,8 +21,7 @@ proper_header h = nat_le h.variables 4096 && nat_lt h.clauses 2147483648
 
 -- the literals are of the variables 1 to v
 abbrev pub proper_lits : ℕ → List Lit → Bool
-proper_lits v [] = true
-proper_lits v (l ∷ ls) = (nat_lt 0 l.variable && nat_le l.variable v) && proper_lits v ls
+proper_lits v = list_all (λ l. nat_lt 0 l.variable && nat_le l.variable v)
 
 -- at most 64 literals, of the variables 1 to v
 abbrev pub proper_clause : ℕ → List Lit → Bool

@@ -1,10 +1,11 @@
 -- The text of a clause file, and the clauses that a text holds. Assumes nothing.
-use Rattle.std.specs.Prelude.{ℕ, true, false, cond, List, [], ◌∷◌, ◌++◌, map, length, drop, Some, None, codes, decimal, Option, ◌==◌}
+use Rattle.std.specs.Prelude.{ℕ, true, false, cond, List, [], ◌∷◌, ◌++◌, map, length, drop, flat_map, codes, decimal, Option, ◌==◌}
 use Rattle.words.specs.Split.{lines, words}
 use Rattle.words.specs.Shapes.{number}
 use Rattle.sink.specs.declared.header.Header.{Header}
 use Rattle.sink.specs.declared.lit.Lit.{Lit}
 use Rattle.sink.specs.Sinks.{Costs}
+use Rattle.sink.specs.Files.{file_by}
 
 -- p cnf, V and C, parted by single blanks, then LF
 abbrev pub header_line : Header → List ℕ
@@ -16,21 +17,18 @@ lit_text l = cond l.negated (codes "-") [] ++ decimal l.variable
 
 -- every literal is followed by one blank
 abbrev pub lits_text : List Lit → List ℕ
-lits_text [] = []
-lits_text (l ∷ ls) = lit_text l ++ codes " " ++ lits_text ls
+lits_text = flat_map (λ l. lit_text l ++ codes " ")
 
 -- then 0 and LF end it
 abbrev pub clause_line : List Lit → List ℕ
 clause_line c = lits_text c ++ codes "0\n"
 
 abbrev pub clause_lines : List (List Lit) → List ℕ
-clause_lines [] = []
-clause_lines (c ∷ cs) = clause_line c ++ clause_lines cs
+clause_lines = flat_map clause_line
 
 -- the file of a header and clauses; nothing without a header
 abbrev pub file : Option Header → List (List Lit) → List ℕ
-file None cs = []
-file (Some h) cs = header_line h ++ clause_lines cs
+file = file_by header_line clause_line
 
 -- costs are bytes
 abbrev pub text_costs : Costs

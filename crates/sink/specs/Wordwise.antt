@@ -1,8 +1,13 @@
 -- A clause file as signed words, and the clauses that words hold. Assumes nothing.
-use Rattle.std.specs.Prelude.{zero, suc, ◌+◌, true, false, cond, List, [], ◌∷◌, ◌++◌, map, length, drop, ℤ, pos, negsuc, neg_ℤ, Some, None, Option}
+use Rattle.std.specs.Prelude.{zero, suc, ◌+◌, true, false, cond, List, [], ◌∷◌, ◌++◌, map, length, drop, flat_map, ℤ, pos, negsuc, neg_ℤ, Option}
 use Rattle.sink.specs.declared.header.Header.{Header}
 use Rattle.sink.specs.declared.lit.Lit.{Lit}
 use Rattle.sink.specs.Sinks.{Costs}
+use Rattle.sink.specs.Files.{file_by}
+
+-- V and C
+abbrev pub header_words : Header → List ℤ
+header_words h = pos h.variables ∷ pos h.clauses ∷ []
 
 -- a variable's number, below zero where the literal is its opposite
 abbrev pub lit_word : Lit → ℤ
@@ -13,13 +18,11 @@ abbrev pub clause_words : List Lit → List ℤ
 clause_words c = map lit_word c ++ pos 0 ∷ []
 
 abbrev pub all_clause_words : List (List Lit) → List ℤ
-all_clause_words [] = []
-all_clause_words (c ∷ cs) = clause_words c ++ all_clause_words cs
+all_clause_words = flat_map clause_words
 
--- V and C, then each clause; nothing without a header
+-- the header, then each clause; nothing without a header
 abbrev pub word_file : Option Header → List (List Lit) → List ℤ
-word_file None cs = []
-word_file (Some h) cs = pos h.variables ∷ pos h.clauses ∷ all_clause_words cs
+word_file = file_by header_words clause_words
 
 -- costs are words
 abbrev pub word_costs : Costs

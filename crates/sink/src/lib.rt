@@ -1,8 +1,9 @@
 //! Where a clause set goes: the trait of a sink, and sinks of DIMACS text and of words.
 #![tactic(auto)]
 
-mod coding;
+pub mod buffered;
 mod decimals;
+mod format;
 pub mod header;
 pub mod lit;
 mod printing;

@@ -1,6 +1,6 @@
 //! What a sink takes at all: headers and clauses within the limits of a clause file.
 ghost use Rattle.std.specs.Prelude.{◌≡◌};
-ghost use Rattle.sink.specs.Sinks.{proper_header, proper_clause, proper_lits, under};
+ghost use Rattle.sink.specs.Sinks.{proper_header, proper_lits, proper_clause, under};
 
 use crate::header::Header;
 use crate::lit::Lit;
@@ -23,12 +23,8 @@ pub(crate) fn is_proper_header(header: Header) -> bool
 fn are_proper_lits(variables: u16, lits: &[Lit]) -> bool
     ensures { result ≡ proper_lits variables lits.now }
 {
-    for l in lits {
-        if l.variable == 0 || l.variable > variables {
-            return false;
-        }
-    }
-    true
+    lits.iter()
+        .all(|l| 0 < l.variable && l.variable <= variables)
 }
 
 fn is_proper_clause(variables: u16, clause: &[Lit]) -> bool
@@ -41,8 +37,5 @@ fn is_proper_clause(variables: u16, clause: &[Lit]) -> bool
 pub(crate) fn is_under(header: Option<Header>, clause: &[Lit]) -> bool
     ensures { result ≡ under header clause.now }
 {
-    match header {
-        Some(h) => is_proper_clause(h.variables, clause),
-        None => false,
-    }
+    header.is_some_and(|h| is_proper_clause(h.variables, clause))
 }
