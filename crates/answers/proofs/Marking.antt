@@ -1,59 +1,16 @@
 -- Marks of numbers, as literals are read. Assumes nothing.
-use Rattle.std.proofs.Common.{◌≡◌, ℕ, zero, suc, ◌+◌, ◌<◌, ◌≤◌, Bool, true, false, cond, not, ◌&&◌, ◌||◌, eqb, List, [], ◌∷◌, length, get_or, set, drop, sym, refl, ap, ◌∙◌, inl, inr, zero-add, arith, get_or-set_other}
-use Rattle.std.proofs.lemmas.List.{at_drop_more, at_drop_all}
-use Rattle.std.proofs.lemmas.Grind.{get_or-set_at}
-use Rattle.std.proofs.lemmas.Bool.{eq-eqb, ne_eqb, cases_order}
+use Rattle.std.proofs.Common.{◌≡◌, ℕ, zero, suc, ◌+◌, ◌<◌, Bool, true, false, cond, not, ◌&&◌, ◌||◌, eqb, List, [], ◌∷◌, length, get_or, drop, sym, refl, ap, ◌∙◌, zero-add, arith}
+use Rattle.std.proofs.lemmas.Bool.{ne_eqb}
 use Rattle.sink.specs.declared.lit.Lit.{Lit}
 use Rattle.answers.specs.declared.assignment.Mark.{Mark}
 use Rattle.answers.specs.declared.assignment.Mark.TheVariants.{Absent, Set, Twice}
 use Rattle.answers.specs.Assignments.{times, says}
-use Rattle.answers.specs.Marks.{given, mark_after, Marked}
+use Rattle.answers.specs.Marks.{mark_after}
 
--- t has one mark more than s: the number j is given with the truth b, where it has a place
-abbrev pub GivesMark : List Mark → List Mark → ℕ → Bool → Type 0
-GivesMark s t j b = (n : ℕ) → n < length s → get_or t n Absent ≡ cond (eqb j n) (given (get_or s n Absent) b) (get_or s n Absent)
-
-gives_here : (s : List Mark) (j : ℕ) (b : Bool) → j < length s → GivesMark s (set s j (given (get_or s j Absent) b)) j b
-gives_here s j b lt n within =
-    elim (cases_order j n) [
-      | inl e ↦
-          get_or-set_at s j n _ Absent (sym e) lt
-          ∙ ap (λ k. given (get_or s k Absent) b) e
-          ∙ sym (ap (λ t. cond t (given (get_or s n Absent) b) (get_or s n Absent)) (eq-eqb j n e))
-      | inr (inl below) ↦ there (λ e. omega arith)
-      | inr (inr above) ↦ there (λ e. omega arith)
-    ]
-  where
-    there : (j ≡ n → ⊥) → get_or (set s j (given (get_or s j Absent) b)) n Absent ≡ cond (eqb j n) (given (get_or s n Absent) b) (get_or s n Absent)
-    there ne = get_or-set_other s j n _ Absent (λ e. ne (sym e)) ∙ sym (ap (λ t. cond t (given (get_or s n Absent) b) (get_or s n Absent)) (ne_eqb j n ne))
-
--- a mark is written at the number's place
-pub gives_written : (s t : List Mark) (j k : ℕ) (b : Bool) (m : Mark) → t ≡ set s j m → m ≡ given (get_or s j Absent) b → j ≡ k → j < length s → GivesMark s t k b
-gives_written s t j k b m written is same lt n within =
-    ap (λ x. get_or x n Absent) (written ∙ ap (set s j) is)
-    ∙ gives_here s j b lt n within
-    ∙ ap (λ i. cond (eqb i n) (given (get_or s n Absent) b) (get_or s n Absent)) same
-
--- the number has no place
-pub gives_none : (s t : List Mark) (j k : ℕ) (b : Bool) → t ≡ s → j ≡ k → length s ≤ j → GivesMark s t k b
-gives_none s t j k b kept same past n within =
-    let ne : k ≡ n → ⊥ = λ e. omega arith in
-    ap (λ x. get_or x n Absent) kept
-    ∙ sym (ap (λ t. cond t (given (get_or s n Absent) b) (get_or s n Absent)) (ne_eqb k n ne))
-
--- the marks of the literals left
-abbrev pub MarksLeft : List Lit → ℕ → List Mark → List Mark → Type 0
-MarksLeft ls i s t = (n : ℕ) → n < length s → mark_after (drop i ls) n (get_or t n Absent) ≡ mark_after ls n (get_or s n Absent)
-
-pub marks_more : (ls : List Lit) (i : ℕ) (d : Lit) (s t u : List Mark) → i < length ls → length t ≡ length s → MarksLeft ls i s t → GivesMark t u (get_or ls i d).variable (not (get_or ls i d).negated) → MarksLeft ls (i + 1) s u
-marks_more ls i d s t u lt same inv gives n within =
-    ap (mark_after (drop (i + 1) ls) n) (gives n (omega arith))
-    ∙ sym (at_drop_more (λ ks. mark_after ks n (get_or t n Absent)) ls i d lt)
-    ∙ inv n within
-
-pub marks_all : (ls : List Lit) (i : ℕ) (s t : List Mark) → length ls ≤ i → MarksLeft ls i s t → Marked ls s t
-marks_all ls i s t past inv n within =
-    sym (at_drop_all (λ ks. mark_after ks n (get_or t n Absent)) ls i past) ∙ inv n within
+-- the marks of n numbers, where the literals from the place i on are left
+abbrev pub MarksLeft : List Lit → ℕ → ℕ → List Mark → Type 0
+MarksLeft ls i n t =
+    (length t ≡ n) × ((k : ℕ) → k < n → mark_after (drop i ls) k (get_or t k Absent) ≡ mark_after ls k Absent)
 
 -- the mark of a number that is given k times, and without a minus if b
 abbrev pub shown : ℕ → Bool → Mark

@@ -26,8 +26,8 @@ abbrev pub says : List Lit → ℕ → Bool
 says [] n = false
 says (l ∷ ls) n = (l.variable == n && not l.negated) || says ls n
 
--- the truth of each number, at its place, or it is not given once
+-- the truth of each number, at its place, or it is not given once; the place 0 is false
 abbrev pub Assigns : List Lit → ℕ → Result (Vec Bool Global) AssignmentFault → Type 0
-Assigns ls v (Ok truths) = (given_once ls v ≡ true) × (length (vec_items truths) ≡ v + 1) × ((n : ℕ) → 1 ≤ n → n ≤ v → slice_index_or (vec_items truths) n false ≡ says ls n)
+Assigns ls v (Ok truths) = (given_once ls v ≡ true) × (length (vec_items truths) ≡ v + 1) × (slice_index_or (vec_items truths) 0 true ≡ false) × ((n : ℕ) → 1 ≤ n → n ≤ v → slice_index_or (vec_items truths) n false ≡ says ls n)
 Assigns ls v (Err NotOnce) = given_once ls v ≡ false
 Assigns ls v (Err NoMemory) = Unit {0}

@@ -2,6 +2,5 @@ pub mod Lines
 pub mod Claims
 pub mod Literals
 pub mod Assignments
-pub mod Numbers
 pub mod Seeing
 pub mod Marks

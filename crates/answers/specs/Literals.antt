@@ -3,8 +3,6 @@ use Rattle.std.specs.Prelude.{◌≡◌, ℕ, Bool, true, false, cond, not, ◌&
 use Rattle.std.specs.Str.{bytes_eq}
 use Rattle.std.specs.declared.alloc.Global.{Global}
 use Rattle.order.specs.Between.{joined}
-use Rattle.words.specs.declared.parts.Part.{Part}
-use Rattle.words.specs.Parts.{bytes}
 use Rattle.words.specs.Shapes.{all_digits, number}
 use Rattle.words.specs.Split.{lines, words}
 use Rattle.sink.specs.declared.lit.Lit.{Lit}
@@ -39,11 +37,11 @@ value_words text = joined words (value_lines (lines text))
 abbrev pub literals_in : List ℕ → List Lit
 literals_in text = map lit_of (value_words text)
 
--- the literals of a part's words are added, unless a word is none
-abbrev pub Tells : List ℕ → Part → ℕ → Vec Lit Global → Result (Unit {0}) LiteralFault → Vec Lit Global → Type 0
-Tells text p v s (Ok u) t = (all_literals v (words (bytes text p)) ≡ true) × (vec_items t ≡ vec_items s ++ map lit_of (words (bytes text p)))
-Tells text p v s (Err BadWord) t = all_literals v (words (bytes text p)) ≡ false
-Tells text p v s (Err NoMemory) t = Unit {0}
+-- the literals of words are added, unless a word is none
+abbrev pub Tells : List (List ℕ) → ℕ → Vec Lit Global → Result (Unit {0}) LiteralFault → Vec Lit Global → Type 0
+Tells ws v s (Ok u) t = (all_literals v ws ≡ true) × (vec_items t ≡ vec_items s ++ map lit_of ws)
+Tells ws v s (Err BadWord) t = all_literals v ws ≡ false
+Tells ws v s (Err NoMemory) t = Unit {0}
 
 -- the literals of all value lines, unless a word is none
 abbrev pub Gives : List ℕ → ℕ → Result (Vec Lit Global) LiteralFault → Type 0

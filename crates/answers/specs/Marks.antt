@@ -15,6 +15,6 @@ abbrev pub mark_after : List Lit → ℕ → Mark → Mark
 mark_after [] n m = m
 mark_after (l ∷ ls) n m = mark_after ls n (cond (l.variable == n) (given m (not l.negated)) m)
 
--- the mark of each number is what the literals make of it
-abbrev pub Marked : List Lit → List Mark → List Mark → Type 0
-Marked ls s t = (n : ℕ) → n < length s → slice_index_or t n Absent ≡ mark_after ls n (slice_index_or s n Absent)
+-- the marks of the numbers below n are what the literals make of them, where each was absent
+abbrev pub Marked : List Lit → ℕ → List Mark → Type 0
+Marked ls n t = (length t ≡ n) × ((k : ℕ) → k < n → slice_index_or t k Absent ≡ mark_after ls k Absent)

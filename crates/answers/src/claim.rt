@@ -1,13 +1,13 @@
 //! What an answer claims.
 ghost use Rattle.std.specs.Prelude.{◌≡◌};
 ghost use Rattle.answers.specs.Claims.{Claims};
-ghost use Rattle.answers.specs.Seeing.{with_line};
+ghost use Rattle.answers.specs.Seeing.{and_claim, with_line};
 
 use crate::line::{Line, Status};
-use words::lines::next_line;
+use words::lines::Lines;
 
 /// Why an answer claims nothing that can be read.
-#[derive(Clone, Copy, Debug)]
+#[derive(Clone, Copy, Debug, PartialEq, Eq)]
 pub enum ClaimFault {
     /// A line that is no comment, status line or value line.
     BadLine,
@@ -17,32 +17,50 @@ pub enum ClaimFault {
     StrayValues,
 }
 
-/// What the lines of an answer so far have shown: the claims, counted to two, the last of them, and whether there is
-/// a value line.
+// What status lines have claimed.
+#[derive(Clone, Copy)]
+enum Claimed {
+    Nothing,
+    Once(Status),
+    Often,
+}
+
+impl Claimed {
+    // One claim more.
+    fn and(self, status: Status) -> Claimed
+        ensures { result ≡ and_claim self status }
+    {
+        match self {
+            Claimed::Nothing => Claimed::Once(status),
+            Claimed::Once(_) | Claimed::Often => Claimed::Often,
+        }
+    }
+}
+
+// What the lines of an answer so far have shown: the claims, and whether there is a value line.
 #[derive(Clone, Copy)]
 struct Seen {
-    claims: u8,
-    last: Status,
+    claimed: Claimed,
     values: bool,
 }
 
-// One line more; none where it is not right.
-fn with_line(seen: Seen, line: &[u8]) -> Option<Seen>
-    ensures { result ≡ with_line seen line.now }
-{
-    match Line::of(line) {
-        Line::Comment => Some(seen),
-        Line::Claim(status) => Some(Seen {
-            claims: if seen.claims == 0 { 1 } else { 2 },
-            last: status,
-            values: seen.values,
-        }),
-        Line::Values(_) => Some(Seen {
-            claims: seen.claims,
-            last: seen.last,
-            values: true,
-        }),
-        Line::Other => None,
+impl Seen {
+    // One line more.
+    fn with_line(self, line: &[u8]) -> Result<Seen, ClaimFault>
+        ensures { result ≡ with_line self line.now }
+    {
+        match Line::of(line) {
+            Line::Comment => Ok(self),
+            Line::Claim(status) => Ok(Seen {
+                claimed: self.claimed.and(status),
+                ..self
+            }),
+            Line::Values(_) => Ok(Seen {
+                values: true,
+                ..self
+            }),
+            Line::Other => Err(ClaimFault::BadLine),
+        }
     }
 }
 
@@ -51,24 +69,16 @@ pub fn claim(text: &[u8]) -> Result<Status, ClaimFault>
     ensures { Claims text.now result }
 {
     let mut seen = Seen {
-        claims: 0,
-        last: Status::Unknown,
+        claimed: Claimed::Nothing,
         values: false,
     };
-    let mut at = 0;
-    while let Some(part) = next_line(text, at) {
-        let Some(more) = with_line(seen, part.of(text)) else {
-            return Err(ClaimFault::BadLine);
-        };
-        seen = more;
-        at = part.end + 1;
+    for (_, line) in Lines::of(text) {
+        seen = seen.with_line(line)?;
     }
-    if seen.claims != 1 {
-        return Err(ClaimFault::BadStatus);
-    }
-    match seen.last {
-        Status::Satisfiable => Ok(seen.last),
-        _ if seen.values => Err(ClaimFault::StrayValues),
-        status => Ok(status),
+    match seen.claimed {
+        Claimed::Once(Status::Satisfiable) => Ok(Status::Satisfiable),
+        Claimed::Once(_) if seen.values => Err(ClaimFault::StrayValues),
+        Claimed::Once(status) => Ok(status),
+        Claimed::Nothing | Claimed::Often => Err(ClaimFault::BadStatus),
     }
 }

@@ -3,7 +3,7 @@ ghost use Rattle.std.specs.Prelude.{◌≡◌, ◌∷◌};
 ghost use Rattle.answers.specs.Lines.{Shapes, status_of};
 
 /// What a solver claims.
-#[derive(Clone, Copy, Debug)]
+#[derive(Clone, Copy, Debug, PartialEq, Eq)]
 pub enum Status {
     Satisfiable,
     Unsatisfiable,
@@ -15,14 +15,11 @@ impl Status {
     fn of(claim: &[u8]) -> Option<Status>
         ensures { result ≡ status_of (115 ∷ (32 ∷ claim.now)) }
     {
-        if claim == b"SATISFIABLE".as_slice() {
-            Some(Status::Satisfiable)
-        } else if claim == b"UNSATISFIABLE".as_slice() {
-            Some(Status::Unsatisfiable)
-        } else if claim == b"UNKNOWN".as_slice() {
-            Some(Status::Unknown)
-        } else {
-            None
+        match claim {
+            b"SATISFIABLE" => Some(Status::Satisfiable),
+            b"UNSATISFIABLE" => Some(Status::Unsatisfiable),
+            b"UNKNOWN" => Some(Status::Unknown),
+            _ => None,
         }
     }
 }

@@ -1,7 +1,7 @@
 //! Lines, words and shapes.
 use words::lines::{Lines, Words, next_line, next_word};
 use words::parts::Part;
-use words::shapes::{is_name, number};
+use words::shapes::{decimal, is_name, number};
 use words::tokens::Word;
 
 // Where the line from `from` on begins and ends.
@@ -73,6 +73,11 @@ fn numbers(rt: HostRuntime) {
     assert_eq!(rt; number(b"1000"), None);
     assert_eq!(rt; number(b"1a"), None);
     assert_eq!(rt; number(b""), None);
+    assert_eq!(rt; decimal(b"0000000000012"), Some(12));
+    assert_eq!(rt; decimal(b"4294967295"), Some(4294967295));
+    assert_eq!(rt; decimal(b"4294967296"), None);
+    assert_eq!(rt; decimal(b"12a"), None);
+    assert_eq!(rt; decimal(b""), None);
 }
 
 #[test]

@@ -1,5 +1,5 @@
 -- The shapes of a word: a name, a number. Assumes nothing.
-use Rattle.std.specs.Prelude.{ℕ, ◌+◌, ◌-◌, ◌*◌, Bool, true, false, ◌&&◌, ◌||◌, List, [], ◌∷◌, length, ◌==◌, nat_le, nat_lt}
+use Rattle.std.specs.Prelude.{ℕ, ◌+◌, ◌-◌, ◌*◌, Bool, false, ◌&&◌, ◌||◌, List, [], ◌∷◌, length, ◌==◌, nat_le, nat_lt}
 use Rattle.std.specs.List.{list_all}
 
 -- whether b is one of the bytes from low to high
@@ -30,8 +30,11 @@ abbrev pub is_name : List ℕ → Bool
 is_name w = starts_with_letter w && (all_in_name w && nat_le (length w) 16)
 
 abbrev pub all_digits : List ℕ → Bool
-all_digits [] = true
-all_digits (b ∷ bs) = is_digit b && all_digits bs
+all_digits w = list_all is_digit w
+
+-- 1 digit or more
+abbrev pub is_decimal : List ℕ → Bool
+is_decimal w = all_digits w && nat_lt 0 (length w)
 
 -- a number: 1 to 3 digits
 abbrev pub is_number : List ℕ → Bool

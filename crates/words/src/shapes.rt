@@ -1,6 +1,6 @@
 //! The shapes of a word: a name, a number.
-ghost use Rattle.std.specs.Prelude.{◌≡◌, Bool, true, false, if◌then◌else◌, Some, None};
-ghost use Rattle.words.specs.Shapes.{in_name, is_name, is_number, number};
+ghost use Rattle.std.specs.Prelude.{◌≡◌, Bool, true, false, if◌then◌else◌, Some, None, ◌^◌, ◌&&◌, nat_lt};
+ghost use Rattle.words.specs.Shapes.{in_name, is_decimal, is_name, is_number, number};
 
 /// Whether a word is a name: 1 to 16 letters, digits or underscores, first a letter.
 pub fn is_name(word: &[u8]) -> bool
@@ -19,19 +19,29 @@ fn in_name(b: u8) -> bool
     b.is_ascii_alphanumeric() || b == b'_'
 }
 
-/// The value of a word of 1 to 3 digits; none for any other word.
-pub fn number(word: &[u8]) -> Option<u16>
-    ensures { result ≡ (if is_number word.now then Some (number word.now) else None) }
+/// The value of a word of digits alone, where it fits; none for any other word.
+pub fn decimal(word: &[u8]) -> Option<u32>
+    ensures { result ≡ (if is_decimal word.now && nat_lt (number word.now) (2 ^ 32) then Some (number word.now) else None) }
 {
-    if word.is_empty() || word.len() > 3 {
+    if word.is_empty() {
         return None;
     }
-    let mut value = 0;
+    let mut value: u32 = 0;
     for b in word {
         if !b.is_ascii_digit() {
             return None;
         }
-        value = value * 10 + u16::from(*b - b'0');
+        value = value.checked_mul(10)?.checked_add(u32::from(*b - b'0'))?;
     }
     Some(value)
+}
+
+/// The value of a word of 1 to 3 digits; none for any other word.
+pub fn number(word: &[u8]) -> Option<u16>
+    ensures { result ≡ (if is_number word.now then Some (number word.now) else None) }
+{
+    if word.len() > 3 {
+        return None;
+    }
+    u16::try_from(decimal(word)?).ok()
 }

@@ -1,14 +1,21 @@
-use Rattle.std.proofs.Common.{true, false, ◌∙◌}
-use Rattle.std.proofs.lemmas.List.{at_drop_all}
-use Rattle.answers.proofs.Ending.{zeros_right, zeros_right_at, ends, ends_not}
+use Rattle.std.proofs.Common.{rules, tests, not, ◌&&◌, nat_eq, sym, ap, ◌∙◌}
+use Rattle.std.proofs.lemmas.Bool.{eq-eqb, ne_eqb}
+use Rattle.std.proofs.lemmas.Iterator.{YieldsList-from_slice}
+use Rattle.std.proofs.lemmas.Iterator.Search.{all_from_yields_List}
+use Rattle.answers.specs.Assignments.{zero_ends}
+use Rattle.answers.proofs.Ending.{no_zeros, zero_ends_last}
 use Rattle.answers.proofs.assignment.ends_with_zero.Goals as goal
 
-pub returns-then-lits-k : goal.returns-then-lits-k
-returns-then-lits-k c =
-    ends_not c.args.lits.now (c.loop-k.invariant ∙ zeros_right_at _ _ _ true c.loop-k-test.true c.if-lits-k.true)
+pub returns-then-last-eq0 : goal.returns-then-last-eq0
+returns-then-last-eq0 c =
+    let last = c.in-Some.last.now in
+    let others = c.in-Some.others.now in
+    all_from_yields_List (λ l. not (nat_eq l.variable 0)) _ _ c.all.result c.all.ensures.ran (YieldsList-from_slice others cc) (λ x b q k. search (rules, tests))
+    ∙ sym (ap zero_ends c.in-Some.ensures.cases.0 ∙ zero_ends_last others last ∙ ap (λ b. b && no_zeros others) (eq-eqb last.variable 0 c.if-last-eq0.true))
 
-pub loop-k-preserved : goal.loop-k-preserved
-loop-k-preserved c = c.loop-k.invariant ∙ zeros_right_at _ _ _ false c.loop-k-test.true c.if-lits-k.false
-
-pub returns : goal.returns
-returns c = ends c.args.lits.now (c.loop-k.invariant ∙ at_drop_all zeros_right _ _ c.loop-k-test.false)
+pub returns-else-last-eq0 : goal.returns-else-last-eq0
+returns-else-last-eq0 c =
+    let last = c.in-Some.last.now in
+    let others = c.in-Some.others.now in
+    let none = ne_eqb last.variable 0 c.if-last-eq0.false in
+    none ∙ sym (ap zero_ends c.in-Some.ensures.cases.0 ∙ zero_ends_last others last ∙ ap (λ b. b && no_zeros others) none)

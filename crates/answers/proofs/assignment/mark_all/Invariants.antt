@@ -1,6 +1,0 @@
-use Rattle.answers.proofs.Marking.{MarksLeft}
-use Rattle.answers.proofs.assignment.mark_all.Given as goal
-
--- what is left is to be marked
-abbrev pub invariant-loop-lit : goal.invariant-loop-lit
-invariant-loop-lit l = MarksLeft l.lits l.lit-index l.initial.marks l.marks
