@@ -23,7 +23,7 @@ grown (Err q) rs rs' n e g = absurd (false≢true e)
 
 -- one more at the end of a list that was kept
 pub pushed : {X : Type 0} (xs ys zs : List X) (x : X) → ys ≡ xs → zs ≡ ys ++ x ∷ [] → zs ≡ xs ++ x ∷ []
-pushed xs ys zs x same more = more ∙ ap (λ l. l ++ x ∷ []) same
+pushed xs ys zs x same more = cc
 
 -- the number and the bits of all variables, with one more
 pub length_more : (rs rs' : List Range) (r : Range) → rs' ≡ rs ++ r ∷ [] → length rs' ≡ length rs + 1

@@ -1,12 +1,13 @@
 -- Each call keeps the invariant. Assumes nothing.
-use Rattle.std.proofs.Common.{◌≡◌, ℕ, zero, suc, true, ltb, leb, List, [], ◌∷◌, length, Ok, Err, vec_items, Result, sym, refl, ap, ◌∙◌, subst, arith}
-use Rattle.std.proofs.lemmas.Bool.{false≢true, and_from, lt-ltb, le-leb}
+use Rattle.std.proofs.Common.{◌≡◌, ℕ, zero, suc, true, List, [], ◌∷◌, length, Ok, Err, vec_items, Result, sym, refl, ap, ◌∙◌, subst, arith}
+use Rattle.std.proofs.lemmas.Bool.Decides.{nat_tests}
+use Rattle.std.proofs.lemmas.Bool.{false≢true}
 use Rattle.order.specs.declared.literal.Literal.{Literal}
 use Rattle.order.specs.declared.literal.Literal.TheVariants.{False, True, Bit, Not}
 use Rattle.order.specs.Literals.{opposite}
 use Rattle.order.specs.Ranges.{range}
 use Rattle.order.proofs.Signs.{equal_from_same}
-use Rattle.ties.specs.Roots.{rank, root_at, root_by, there}
+use Rattle.ties.specs.Roots.{rank, root_at, root_by}
 use Rattle.kinds.specs.declared.item.Item.{Item}
 use Rattle.kinds.specs.Items.{variable_of}
 use Rattle.linear.specs.Leq.{leq}
@@ -45,7 +46,7 @@ new_root (Not n) = ap opposite (new_bit n)
 new_rooted : Rooted (root_at [])
 new_rooted = record {
   lower = λ n. omega (arith, ap rank (new_bit n));
-  named = λ n h. ap (there n) (new_bit n) ∙ and_from (ltb 0 n) (leb n n) (lt-ltb 0 n h) (le-leb n n (omega arith));
+  named = λ n h. grind (arith, nat_tests, new_bit n);
   fixed = λ n. new_root (root_at [] n);
 }
 

@@ -1,8 +1,9 @@
 -- What is written fits: a small header, few proper clauses, small costs, and a sink that takes it all. Assumes nothing.
-use Rattle.std.proofs.Common.{◌≡◌, ℕ, zero, suc, ◌+◌, ◌-◌, ◌*◌, ◌<◌, ◌≤◌, Bool, true, false, cond, not, ◌&&◌, ◌||◌, ltb, leb, List, [], ◌∷◌, ◌++◌, map, length, is_some, Some, None, Ok, Err, Result, sym, refl, ap, ◌∙◌, mul-suc, arith, lit≤, length-append}
+use Rattle.std.proofs.Common.{◌≡◌, ℕ, zero, suc, ◌+◌, ◌-◌, ◌*◌, ◌<◌, ◌≤◌, Bool, true, false, cond, not, ◌||◌, ltb, leb, List, [], ◌∷◌, ◌++◌, map, length, is_some, Some, Ok, Err, Result, sym, refl, ap, ◌∙◌, mul-suc, arith, lit≤, length-append}
 use Rattle.std.specs.List.{AllByRecursion}
 use Rattle.std.proofs.lemmas.List.{append_assoc, append-nil}
-use Rattle.std.proofs.lemmas.Bool.{and_from, le-leb, lt-leb, lt-ltb, ltb-true, ltb-false}
+use Rattle.std.proofs.lemmas.Bool.Decides.{nat_tests}
+use Rattle.std.proofs.lemmas.Bool.{le-leb, ltb-false}
 use Rattle.order.specs.declared.bound.Bound.{Bound}
 use Rattle.order.specs.declared.literal.Literal.{Literal}
 use Rattle.order.specs.declared.literal.Literal.TheVariants.{True}
@@ -11,14 +12,14 @@ use Rattle.order.specs.declared.variables.Variables.{Variables}
 use Rattle.order.specs.Ranges.{total_bits}
 use Rattle.order.specs.Variables.{ranges_of}
 use Rattle.ties.specs.declared.classes.Ties.{Ties}
-use Rattle.ties.specs.Roots.{free_to, own, root_at, Named, Fixed}
+use Rattle.ties.specs.Roots.{free_to, root_at, Named, Fixed}
 use Rattle.ties.specs.Views.{roots_of}
 use Rattle.kinds.specs.Meaning.{Meaning, Lawful as LawfulKind}
 use Rattle.rows.specs.declared.storage.Rows.{Rows}
 use Rattle.rows.specs.Rows.{rows_of}
 use Rattle.sink.specs.declared.header.Header.{Header}
 use Rattle.sink.specs.declared.lit.Lit.{Lit}
-use Rattle.sink.specs.Sinks.{Costs, State, Lawful, proper_header, proper_clause, takes_header, with_header, takes_clause, with_clause, under, capped}
+use Rattle.sink.specs.Sinks.{Costs, State, Lawful, proper_header, proper_clause, takes_header, with_header, takes_clause, with_clause, capped}
 use Rattle.cnf.specs.Numbered.{lit, written_clause, written_all, rooted}
 use Rattle.cnf.specs.Reduced.{has, struck, opposed}
 use Rattle.cnf.specs.Passed.{total_cost, with_clauses}
@@ -54,11 +55,7 @@ module _ (rs : List Range) (f : ℕ → Literal) where
 
 free_few : (f : ℕ → Literal) (n : ℕ) → free_to f n ≤ n
 free_few f zero = lit≤ tt
-free_few f (suc n) = omega (arith, one (own f (suc n)), free_few f n)
-  where
-    one : (b : Bool) → cond b 1 0 ≤ 1
-    one true = lit≤ tt
-    one false = lit≤ tt
+free_few f (suc n) = grind (arith, free_few f n)
 
 -- the file of short clauses that are few
 all_written_proper : (rs : List Range) (f : ℕ → Literal) → Named f → Fixed f → total_bits rs ≤ 4096 → (cs : List (List Bound)) → AllByRecursion Short cs → length cs < 2147483648 → Proper (free_to f (total_bits rs)) (written_all rs f cs)
@@ -76,7 +73,7 @@ takes_all u h [] s e all fits = λ i. record { header = s.header; clauses = sym 
     left = omega arith
 takes_all u h (w ∷ ws) s e all fits =
     let room : u.clause w ≤ s.left = omega arith in
-    let yes : takes_clause u s w ≡ true = and_from (under s.header w) (leb (u.clause w) s.left) (ap (λ o. under o w) e ∙ all.0) (le-leb (u.clause w) s.left room) in
+    let yes : takes_clause u s w ≡ true = grind (arith, nat_tests) in
     let z : State = record { header = s.header; clauses = s.clauses ++ w ∷ []; left = s.left - u.clause w } in
     let one : with_clause u s w ≡ z = ap (λ b. cond b z s) yes in
     let rest = takes_all u h ws z e all.1 (omega arith) in
@@ -87,7 +84,7 @@ takes_all u h (w ∷ ws) s e all fits =
 -- a sink takes a header that fits
 takes_header_all : (u : Costs) (h : Header) (s : State) → is_some s.header ≡ false → proper_header h ≡ true → u.header h ≤ s.left → with_header u s h ≡ record { header = Some h; clauses = s.clauses; left = s.left - u.header h }
 takes_header_all u h s none proper fits =
-    let yes : takes_header u s h ≡ true = and_from (not (is_some s.header)) (proper_header h && leb (u.header h) s.left) (ap not none) (and_from (proper_header h) (leb (u.header h) s.left) proper (le-leb (u.header h) s.left fits)) in
+    let yes : takes_header u s h ≡ true = grind (arith, nat_tests) in
     ap (λ b. cond b (record { header = Some h; clauses = s.clauses; left = s.left - u.header h }) s) yes
 
 -- a file of n variables and the clauses ws: its header, its cost, and what writing it comes to
@@ -119,7 +116,7 @@ pub record Measured (u : Costs) (n : ℕ) (ws : List (List Lit)) (h : Header) (t
 
 module _ (n : ℕ) (ws : List (List Lit)) (p : Proper n ws) where
   header_proper : proper_header (head n ws) ≡ true
-  header_proper = and_from (leb n 4096) (ltb (length ws) 2147483648) (le-leb n 4096 p.small) (lt-ltb (length ws) 2147483648 p.few)
+  header_proper = grind (arith, nat_tests)
 
   -- costs that stay at the largest number do not come there
   module _ (u : Costs) (law : Lawful u) where
@@ -138,9 +135,7 @@ module _ (n : ℕ) (ws : List (List Lit)) (p : Proper n ws) where
 module _ {u : Costs} {n : ℕ} {ws : List (List Lit)} {h : Header} {t : ℕ} (m : Measured u n ws h t) (s : State) (none : is_some s.header ≡ false) where
   -- there is no room for the whole file
   pub no_room : ltb s.left t ≡ true → filing u n ws s ≡ Err NoSpace
-  no_room over =
-      ap (λ b. verdict (cond b (cond (leb (file_cost u n ws) s.left) None (Some NoSpace)) (Some HeaderPresent)) (head n ws) (after u n ws s)) (ap not none)
-      ∙ ap (λ b. verdict (cond b None (Some NoSpace)) (head n ws) (after u n ws s)) (lt-leb (file_cost u n ws) s.left (omega (arith, m.cost, ltb-true s.left t over)))
+  no_room over = grind (arith, nat_tests, m.cost)
 
   -- the whole file is written
   pub whole : (s' s'' : State) → s.clauses ≡ [] → ltb s.left t ≡ false → s' ≡ with_header u s h → s'' ≡ with_clauses u s' ws → filing u n ws s ≡ Ok (h, s'')

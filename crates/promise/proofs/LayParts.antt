@@ -3,7 +3,8 @@ use Rattle.std.proofs.Common.{◌≡◌, ℕ, ◌+◌, ◌<◌, ◌≤◌, Bool,
 use Rattle.std.specs.List.{AllByRecursion}
 use Rattle.std.proofs.lemmas.List.{length_push, get_or_append_left, get_or_push}
 use Rattle.std.proofs.ByRecursion.{All-push}
-use Rattle.std.proofs.lemmas.Bool.{false≢true, cases_lt, and_from, eq-eqb, eqb-true, ne_eqb, cond-true, cond-false}
+use Rattle.std.proofs.lemmas.Bool.Decides.{nat_tests}
+use Rattle.std.proofs.lemmas.Bool.{false≢true, cases_lt, and_from, eq-eqb, eqb-true}
 use Rattle.order.specs.declared.range.Range.{Range}
 use Rattle.order.specs.Ranges.{low, high, no_range}
 use Rattle.kinds.specs.declared.item.Item.{Item}
@@ -62,10 +63,10 @@ abbrev changed : (ℕ → ℕ) → ℕ → ℕ → ℕ → ℕ
 changed w h n x = cond (eqb x h) n (w x)
 
 changed_before : (w : ℕ → ℕ) (h n : ℕ) → Alike h w (changed w h n)
-changed_before w h n x l = sym (cond-false (eqb x h) n (w x) (ne_eqb x h (λ e. omega arith)))
+changed_before w h n x l = grind (arith, nat_tests)
 
 changed_here : (w : ℕ → ℕ) (h n : ℕ) → changed w h n h ≡ n
-changed_here w h n = cond-true (eqb h h) n (w h) (eq-eqb h h refl)
+changed_here w h n = grind (arith, nat_tests)
 
 -- a row more
 module _ (k : Catalogue) (rs : List Range) (ps : List Posted) (p : Posted) (w : ℕ → ℕ) where

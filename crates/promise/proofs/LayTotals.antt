@@ -2,7 +2,6 @@
 use Rattle.std.proofs.Common.{◌≡◌, ℕ, ◌+◌, ◌<◌, ◌≤◌, Bool, true, false, cond, eqb, leb, List, [], ◌∷◌, length, sym, refl, ap, ◌∙◌, arith}
 use Rattle.std.specs.List.{AllByRecursion}
 use Rattle.std.proofs.lemmas.List.{length_push}
-use Rattle.std.proofs.lemmas.Bool.{and_parts}
 use Rattle.std.proofs.lemmas.Bool.Decides.{nat_tests}
 use Rattle.kinds.specs.declared.item.Item.{Item}
 use Rattle.kinds.specs.declared.item.Item.TheVariants.{Variable}
@@ -43,9 +42,7 @@ last_there v s (i ∷ items) l = last_there (with_sum v s (variable_of i)) (leng
 -- the sum is that of the declared variables' values
 same_sum : (v : View) (w u : ℕ → ℕ) → SameLayout v w u → (items : List Item) → all_declared v items ≡ true → sum_of w items ≡ sum_of u items
 same_sum v w u same [] h = refl
-same_sum v w u same (i ∷ items) h =
-    let both = and_parts (is_declared v (variable_of i)) (all_declared v items) h in
-    omega (arith, same (variable_of i) both.0, same_sum v w u same items both.1)
+same_sum v w u same (i ∷ items) h = grind (arith, same (variable_of i), same_sum v w u same items)
 
 module _ (k : Catalogue) (law : LawfulAll k) (one : k.meaning 1 ≡ plus) (two : k.meaning 2 ≡ leq) (three : k.meaning 3 ≡ same) where
   summed_laid : (v : View) (s : ℕ) (items : List Item) (P : (ℕ → ℕ) → Type 0) → Addable v (Variable s ∷ items) → Laid k v P → Laid k (summed v s items) P

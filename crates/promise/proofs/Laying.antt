@@ -1,9 +1,10 @@
 -- Each permitted layout is that of exactly one solution of the job's rules. Assumes nothing.
-use Rattle.std.proofs.Common.{◌≡◌, ℕ, ◌<◌, ◌≤◌, true, cond, eqb, ltb, leb, List, [], ◌∷◌, map, length, is_ok, Ok, Err, vec_items, Result, sym, refl, ap, ◌∙◌, subst, inl, inr, arith}
+use Rattle.std.proofs.Common.{◌≡◌, ℕ, ◌<◌, ◌≤◌, true, cond, ltb, leb, List, [], ◌∷◌, map, length, is_ok, Ok, Err, vec_items, Result, sym, refl, ap, ◌∙◌, subst, inl, inr, arith}
 use Rattle.std.specs.List.{AllByRecursion}
 use Rattle.std.proofs.lemmas.List.{get_or_past}
 use Rattle.std.proofs.ByRecursion.{All-map}
-use Rattle.std.proofs.lemmas.Bool.{false≢true, cases_lt, and_parts, or_cases, eqb-true, leb-true, lt-ltb, le-ltb, cond-true, cond-false}
+use Rattle.std.proofs.lemmas.Bool.Decides.{nat_tests}
+use Rattle.std.proofs.lemmas.Bool.{false≢true, cases_lt, and_parts, leb-true}
 use Rattle.order.specs.declared.range.Range.{Range}
 use Rattle.order.specs.Ranges.{low, high, range, no_range}
 use Rattle.kinds.specs.declared.item.Item.{Item}
@@ -44,13 +45,8 @@ new_laid k = record {
 
 -- declared items name declared variables
 named_same : (v : View) (w u : ℕ → ℕ) → SameLayout v w u → (items : List Item) → all_declared v items ≡ true → (x : ℕ) → names items x ≡ true → w x ≡ u x
-named_same v w u same [] h x g = absurd (false≢true g)
-named_same v w u same (i ∷ items) h x g =
-    let both = and_parts (is_declared v (variable_of i)) (all_declared v items) h in
-    elim (or_cases (eqb (variable_of i) x) (names items x) g) [
-      | inl e ↦ subst (λ y. w y ≡ u y) (eqb-true (variable_of i) x e) (same (variable_of i) both.0)
-      | inr e ↦ named_same v w u same items both.1 x e
-    ]
+named_same v w u alike [] h x g = absurd (false≢true g)
+named_same v w u alike (i ∷ items) h x g = grind (arith, nat_tests, alike (variable_of i), named_same v w u alike items)
 
 -- what is left of P with one call more
 abbrev Asked : Catalogue → ((ℕ → ℕ) → Type 0) → Call → Answer → (ℕ → ℕ) → Type 0
@@ -122,10 +118,10 @@ abbrev cut : ℕ → (ℕ → ℕ) → ℕ → ℕ
 cut n w x = cond (ltb x n) (w x) 0
 
 cut_before : (n : ℕ) (w : ℕ → ℕ) (x : ℕ) → x < n → w x ≡ cut n w x
-cut_before n w x l = sym (cond-true (ltb x n) (w x) 0 (lt-ltb x n l))
+cut_before n w x l = grind (arith, nat_tests)
 
 cut_past : (n : ℕ) (w : ℕ → ℕ) (x : ℕ) → n ≤ x → cut n w x ≡ 0
-cut_past n w x l = cond-false (ltb x n) (w x) 0 (le-ltb x n l)
+cut_past n w x l = grind (arith, nat_tests)
 
 -- a variable that is not there is 0
 past_low : (rs : List Range) (x : ℕ) → length rs ≤ x → low rs x ≡ 0

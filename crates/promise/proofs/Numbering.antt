@@ -1,6 +1,7 @@
 -- The free bits and their numbers in the file, one for one. Assumes nothing.
-use Rattle.std.proofs.Common.{◌≡◌, ℕ, zero, suc, ◌<◌, ◌≤◌, true, cond, ◌&&◌, eqb, sym, refl, ap, ◌∙◌, inl, inr, arith}
-use Rattle.std.proofs.lemmas.Bool.{and_from, and_left, and_parts, and_right, cases_Bool, cases_eq, cond-true, cond-false, eq-eqb, eqb-true, ne_eqb}
+use Rattle.std.proofs.Common.{◌≡◌, ℕ, zero, suc, ◌<◌, ◌≤◌, cond, ◌&&◌, eqb, sym, refl, ap, ◌∙◌, subst, inl, inr, arith}
+use Rattle.std.proofs.lemmas.Bool.Decides.{nat_tests}
+use Rattle.std.proofs.lemmas.Bool.{cases_Bool, cases_eq, cond-false}
 use Rattle.order.specs.declared.literal.Literal.{Literal}
 use Rattle.order.specs.declared.literal.Literal.TheVariants.{Bit}
 use Rattle.order.proofs.Signs.{equal_from_same, same_from_equal}
@@ -25,13 +26,8 @@ module _ (f : ℕ → Literal) where
   pub bit_of_number : (n k : ℕ) → 0 < k → k ≤ n → f k ≡ Bit k → bit_numbered f (free_to f k) n ≡ k
   bit_of_number zero k h l e = absurd (omega arith)
   bit_of_number (suc n) k h l e = elim (cases_eq k (suc n)) [
-    | inl i ↦
-        let mine : own f (suc n) ≡ true = ap (own f) (sym i) ∙ same_from_equal (f k) (Bit k) e in
-        cond-true _ _ _ (and_from (own f (suc n)) (eqb (free_to f (suc n)) (free_to f k)) mine (eq-eqb (free_to f (suc n)) (free_to f k) (ap (free_to f) (sym i)))) ∙ sym i
-    | inr ne ↦ cond-false _ _ _ (elim (cases_Bool (own f (suc n))) [
-      | inl o ↦ and_right (own f (suc n)) (eqb (free_to f (suc n)) (free_to f k)) (ne_eqb (free_to f (suc n)) (free_to f k) (λ z. omega (arith, ap one_if o, free_steps f k n (omega arith))))
-      | inr o ↦ and_left (own f (suc n)) (eqb (free_to f (suc n)) (free_to f k)) o
-    ]) ∙ bit_of_number n k h (omega arith) e
+    | inl i ↦ subst (λ j. bit_numbered f (free_to f j) (suc n) ≡ j) (sym i) (grind (arith, nat_tests, same_from_equal (f (suc n)) (Bit (suc n)) (subst (λ j. f j ≡ Bit j) i e)))
+    | inr ne ↦ grind (arith, nat_tests, free_steps f k n, bit_of_number n k h)
   ]
 
   -- what is numbered among the bits 1 to n is so among more
@@ -53,8 +49,6 @@ module _ (f : ℕ → Literal) where
   pub none_numbered : (n m : ℕ) → ((k : ℕ) → Numbered f n m k → ⊥) → bit_numbered f m n ≡ 0
   none_numbered zero m h = refl
   none_numbered (suc n) m h = elim (cases_Bool (own f (suc n) && eqb (free_to f (suc n)) m)) [
-    | inl e ↦
-        let p = and_parts (own f (suc n)) (eqb (free_to f (suc n)) m) e in
-        absurd (h (suc n) (record { some = omega arith; within = omega arith; own = equal_from_same (f (suc n)) (Bit (suc n)) p.0; number = eqb-true (free_to f (suc n)) m p.1 }))
+    | inl e ↦ absurd (h (suc n) (record { some = omega arith; within = omega arith; own = grind (arith, equal_from_same (f (suc n)) (Bit (suc n))); number = grind (arith, nat_tests) }))
     | inr e ↦ cond-false _ _ _ e ∙ none_numbered n m (λ k s. let t = later n m (k, s) in h t.0 t.1)
   ]

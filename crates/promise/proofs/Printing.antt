@@ -1,8 +1,9 @@
 -- For each assignment there is an answer text that says it.
-use Rattle.std.proofs.Common.{◌≡◌, ℕ, zero, suc, ◌+◌, ◌^◌, ◌<◌, ◌≤◌, Bool, true, false, cond, not, ◌&&◌, ◌||◌, eqb, ltb, leb, List, [], ◌∷◌, ◌++◌, map, get_or, Some, None, Ok, Err, codes, decimal, sym, refl, ap, ◌∙◌, subst, ⊎_elim, arith}
+use Rattle.std.proofs.Common.{◌≡◌, ℕ, zero, suc, ◌+◌, ◌^◌, ◌<◌, ◌≤◌, Bool, true, false, cond, not, eqb, List, [], ◌∷◌, ◌++◌, map, get_or, None, Ok, Err, codes, decimal, sym, refl, ap, ◌∙◌, subst, arith}
 use Rattle.std.proofs.lemmas.Fmt.{digits_decimal, first_decimal, digits_value-decimal}
 use Rattle.std.proofs.lemmas.List.{append-nil}
-use Rattle.std.proofs.lemmas.Bool.{and_parts, and_from, or_right, not_from_false, leb-true, ltb-true, lt-ltb, le-leb, eq-eqb, ne_eqb, cases_eq, cond-true}
+use Rattle.std.proofs.lemmas.Bool.Decides.{nat_tests}
+use Rattle.std.proofs.lemmas.Bool.{or_right, eq-eqb}
 use Rattle.order.specs.Between.{run, joined}
 use Rattle.kinds.specs.Tests.{all_between}
 use Rattle.kinds.proofs.Ranging.{all_more}
@@ -21,7 +22,6 @@ use Rattle.answers.specs.Literals.{is_plain, is_signed, is_literal, all_literals
 use Rattle.answers.specs.declared.claim.ClaimFault.TheVariants.{BadLine}
 use Rattle.answers.specs.declared.line.Status.TheVariants.{Satisfiable}
 use Rattle.calls.specs.View.{View}
-use Rattle.promise.specs.declared.reading.ReadRefusal.TheVariants.{BadWord, BadEnd, NotOnce}
 use Rattle.promise.specs.Readings.{file_variables, incomplete, assignment_in}
 
 -- the literal of the number n that has the truth of n
@@ -46,10 +46,7 @@ answer_text V a = codes "s SATISFIABLE" ++ 10 ∷ (codes "v " ++ clause_line (an
 
 lits_proper : (V : ℕ) (a : ℕ → Bool) (m k : ℕ) → 1 ≤ m → m + k ≤ V + 1 → proper_lits V (lits_from a m k) ≡ true
 lits_proper V a m zero l u = refl
-lits_proper V a m (suc k) l u =
-    and_from (ltb 0 m && leb m V) (proper_lits V (lits_from a (m + 1) k))
-    (and_from (ltb 0 m) (leb m V) (lt-ltb 0 m (omega arith)) (le-leb m V (omega arith)))
-    (lits_proper V a (m + 1) k (omega arith) (omega arith))
+lits_proper V a m (suc k) l u = grind (arith, nat_tests, lits_proper V a (m + 1) k)
 
 -- the text's lines
 text_lines : (c : List Lit) → Small c → lines (codes "s SATISFIABLE" ++ 10 ∷ (codes "v " ++ clause_line c)) ≡ codes "s SATISFIABLE" ∷ ((118 ∷ (32 ∷ body c)) ∷ [])
@@ -63,10 +60,7 @@ text_lines c s =
 -- digits of at most V, the first not 0
 plain_from : (V : ℕ) (w : List ℕ) → all_digits w ≡ true → 48 < get_or w 0 0 → number w ≤ V → is_plain V w ≡ true
 plain_from V [] p h u = absurd (omega arith)
-plain_from V (b ∷ w) p h u =
-    and_from (not (eqb b 48)) (all_digits (b ∷ w) && leb (number (b ∷ w)) V)
-    (not_from_false (eqb b 48) (ne_eqb b 48 (λ e. omega arith)))
-    (and_from (all_digits (b ∷ w)) (leb (number (b ∷ w)) V) p (le-leb (number (b ∷ w)) V u))
+plain_from V (b ∷ w) p h u = grind (arith, nat_tests)
 
 -- without a minus
 signed_from : (V : ℕ) (w : List ℕ) → all_digits w ≡ true → is_plain V w ≡ true → is_signed V w ≡ true
@@ -90,11 +84,7 @@ lit_is V l p u f = or_right _ (is_signed V (lit_text l)) (go l.negated)
 all_written : (V : ℕ) (c : List Lit) → V < 2 ^ 64 → proper_lits V c ≡ true → all_literals V (map lit_text c ++ (48 ∷ []) ∷ []) ≡ true
 all_written V [] f p = refl
 all_written V (l ∷ c) f p =
-    let e = and_parts (ltb 0 l.variable && leb l.variable V) (proper_lits V c) p in
-    let q = and_parts (ltb 0 l.variable) (leb l.variable V) e.0 in
-    and_from (is_literal V (lit_text l)) (all_literals V (map lit_text c ++ (48 ∷ []) ∷ []))
-    (lit_is V l (ltb-true 0 l.variable q.0) (leb-true l.variable V q.1) f)
-    (all_written V c f e.1)
+    grind (arith, nat_tests, lit_is V l, all_written V c f)
 
 -- the literals are read again
 lits_again : (c : List Lit) → Small c → map lit_of (map lit_text c ++ (48 ∷ []) ∷ []) ≡ c ++ zero_lit ∷ []
@@ -104,20 +94,8 @@ lits_again (l ∷ c) s = ap (λ x. x ∷ map lit_of (map lit_text c ++ (48 ∷ [
 -- 0 stands last and only there
 ends : (V : ℕ) (c : List Lit) → proper_lits V c ≡ true → zero_ends (c ++ zero_lit ∷ []) ≡ true
 ends V [] p = refl
-ends V (l ∷ c) p = after c (ends V c e.1)
-  where
-    e : ((ltb 0 l.variable && leb l.variable V) ≡ true) × (proper_lits V c ≡ true)
-    e = and_parts (ltb 0 l.variable && leb l.variable V) (proper_lits V c) p
-
-    low : 0 < l.variable
-    low = ltb-true 0 l.variable (and_parts (ltb 0 l.variable) (leb l.variable V) e.0).0
-
-    other : not (eqb l.variable 0) ≡ true
-    other = not_from_false (eqb l.variable 0) (ne_eqb l.variable 0 (λ q. omega (arith, low)))
-
-    after : (c : List Lit) → zero_ends (c ++ zero_lit ∷ []) ≡ true → zero_ends (l ∷ (c ++ zero_lit ∷ [])) ≡ true
-    after [] h = and_from (not (eqb l.variable 0)) true other refl
-    after (m ∷ c) h = and_from (not (eqb l.variable 0)) (zero_ends (m ∷ (c ++ zero_lit ∷ []))) other h
+ends V (l ∷ []) p = grind (arith, nat_tests)
+ends V (l ∷ m ∷ c) p = grind (arith, nat_tests, ends V (m ∷ c))
 
 -- the numbers from m on are given once, and those before m not at all
 module _ (a : ℕ → Bool) (n : ℕ) (some : 1 ≤ n) where
@@ -125,34 +103,20 @@ module _ (a : ℕ → Bool) (n : ℕ) (some : 1 ≤ n) where
   given m k = lits_from a m k ++ zero_lit ∷ []
 
   times_before : (m k : ℕ) → n < m → times (given m k) n ≡ 0
-  times_before m zero l = ap (λ e. cond e 1 0 + 0) (ne_eqb 0 n (λ e. omega arith))
-  times_before m (suc k) l = ap (λ e. cond e 1 0 + times (given (m + 1) k) n) (ne_eqb m n (λ e. omega arith)) ∙ omega (arith, times_before (m + 1) k (omega arith))
+  times_before m zero l = grind (arith, nat_tests)
+  times_before m (suc k) l = grind (arith, nat_tests, times_before (m + 1) k)
 
   times_in : (m k : ℕ) → m ≤ n → n < m + k → times (given m k) n ≡ 1
   times_in m zero l u = absurd (omega arith)
-  times_in m (suc k) l u =
-      ⊎_elim
-      (λ e. ap (λ x. cond x 1 0 + times (given (m + 1) k) n) (eq-eqb m n e) ∙ omega (arith, times_before (m + 1) k (omega arith)))
-      (λ d. let less : m < n = omega arith in ap (λ x. cond x 1 0 + times (given (m + 1) k) n) (ne_eqb m n d) ∙ omega (arith, times_in (m + 1) k (omega arith) (omega arith)))
-      (cases_eq m n)
+  times_in m (suc k) l u = grind (arith, nat_tests, times_before (m + 1) k, times_in (m + 1) k)
 
   says_before : (m k : ℕ) → n < m → says (given m k) n ≡ false
-  says_before m zero l = ap (λ e. (e && true) || false) (ne_eqb 0 n (λ e. omega arith))
-  says_before m (suc k) l = ap (λ e. (e && not (not (a m))) || says (given (m + 1) k) n) (ne_eqb m n (λ e. omega arith)) ∙ says_before (m + 1) k (omega arith)
+  says_before m zero l = grind (arith, nat_tests)
+  says_before m (suc k) l = grind (arith, nat_tests, says_before (m + 1) k)
 
   says_in : (m k : ℕ) → m ≤ n → n < m + k → says (given m k) n ≡ a n
   says_in m zero l u = absurd (omega arith)
-  says_in m (suc k) l u =
-      ⊎_elim
-      (λ e. ap (λ x. (x && not (not (a m))) || says (given (m + 1) k) n) (eq-eqb m n e)
-      ∙ ap (λ x. not (not (a m)) || x) (says_before (m + 1) k (omega arith))
-      ∙ same (a m) ∙ ap a e)
-      (λ d. let less : m < n = omega arith in ap (λ x. (x && not (not (a m))) || says (given (m + 1) k) n) (ne_eqb m n d) ∙ says_in (m + 1) k (omega arith) (omega arith))
-      (cases_eq m n)
-    where
-      same : (b : Bool) → (not (not b) || false) ≡ b
-      same true = refl
-      same false = refl
+  says_in m (suc k) l u = grind (arith, nat_tests, says_before (m + 1) k, says_in (m + 1) k)
 
 -- what the text says
 module _ (V : ℕ) (a : ℕ → Bool) (f : V < 2 ^ 64) where
@@ -199,9 +163,7 @@ module _ (V : ℕ) (a : ℕ → Bool) (f : V < 2 ^ 64) where
 
 text_complete : (v : View) (a : ℕ → Bool) → file_variables v < 2 ^ 64 → incomplete v (answer_text (file_variables v) a) ≡ None
 text_complete v a f =
-    cond-true (all_literals (file_variables v) (value_words (answer_text (file_variables v) a))) _ (Some BadWord) (text_all_literals (file_variables v) a f)
-    ∙ cond-true (zero_ends (literals_in (answer_text (file_variables v) a))) _ (Some BadEnd) (text_ends (file_variables v) a f)
-    ∙ cond-true (given_once (literals_in (answer_text (file_variables v) a)) (file_variables v)) None (Some NotOnce) (text_once (file_variables v) a f)
+    grind (arith, text_all_literals (file_variables v) a f, text_ends (file_variables v) a f, text_once (file_variables v) a f)
 
 -- for each assignment of the file's numbers there is a full answer that says it
 pub text_says : (v : View) (a : ℕ → Bool) → file_variables v ≤ 4096 → (text : List ℕ) × ((claim_in text ≡ Ok Satisfiable) × ((incomplete v text ≡ None) × ((n : ℕ) → 1 ≤ n → n ≤ file_variables v → assignment_in text n ≡ a n)))

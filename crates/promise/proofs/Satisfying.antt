@@ -2,14 +2,15 @@
 use Rattle.std.proofs.Common.{◌≡◌, ℕ, zero, suc, ◌+◌, ◌-◌, ◌<◌, ◌≤◌, Bool, true, false, cond, not, ◌||◌, ◌⊎◌, List, [], ◌∷◌, map, length, Some, None, Decides, Option, sym, refl, ap, ◌∙◌, inl, inr, arith}
 use Rattle.std.specs.List.{AllByRecursion}
 use Rattle.std.proofs.ByRecursion.{All-from_get_or, All-get_or, All-map, All-weaker}
-use Rattle.std.proofs.lemmas.Bool.{and_from, cases_Bool, cond-true, cond-false, le-ltb}
+use Rattle.std.proofs.lemmas.Bool.Decides.{nat_tests}
+use Rattle.std.proofs.lemmas.Bool.{cases_Bool, cond-true, cond-false}
 use Rattle.std.proofs.lemmas.Bool.Decides.{Decides-at, Decides-like}
 use Rattle.order.specs.declared.literal.Literal.{Literal}
 use Rattle.order.specs.declared.range.Range.{Range}
 use Rattle.order.specs.Bounds.{reach}
 use Rattle.order.specs.Literals.{opposite, truth}
 use Rattle.order.specs.Orders.{step, order}
-use Rattle.order.specs.Ranges.{low, high, first, total_bits}
+use Rattle.order.specs.Ranges.{low, high, total_bits}
 use Rattle.order.proofs.Signs.{truth_opposite}
 use Rattle.ties.specs.Roots.{free_to}
 use Rattle.kinds.specs.Meaning.{Meaning}
@@ -39,25 +40,19 @@ use Rattle.promise.specs.Readings.{bit_truth, read_value, in_order, row_met, fir
 use Rattle.promise.proofs.Numbering.{bit_numbered, bit_of_number, number_of_bit, none_numbered}
 use Rattle.promise.proofs.SatFile.{satisfied_output}
 
-some_not_none : {X : Type 0} (x : X) → Some x ≡ None → ⊥
-some_not_none x e = let z : ◌≡◌ {A = ℕ} 0 1 = cc in omega arith
-
 -- where none of n numbers fails, each passes, and back
 module _ (p : ℕ → Bool) where
   none_fails : (a n : ℕ) → first_failing p a n ≡ None → every p a n ≡ true
   none_fails a zero h = refl
-  none_fails a (suc n) h = elim (cases_Bool (p a)) [
-    | inl e ↦ and_from (p a) (every p (a + 1) n) e (none_fails (a + 1) n (sym (cond-true _ _ _ e) ∙ h))
-    | inr e ↦ absurd (some_not_none a (sym (cond-false _ _ _ e) ∙ h))
-  ]
+  none_fails a (suc n) h = grind (arith, none_fails (a + 1) n)
 
   passes_none : (a n : ℕ) → ((i : ℕ) → a ≤ i → i < a + n → p i ≡ true) → first_failing p a n ≡ None
   passes_none a zero h = refl
-  passes_none a (suc n) h = cond-true _ _ _ (h a (omega arith) (omega arith)) ∙ passes_none (a + 1) n (λ i l u. h i (omega arith) (omega arith))
+  passes_none a (suc n) h = grind (arith, h a, passes_none (a + 1) n (λ i l u. h i (omega arith) (omega arith)))
 
   every_from : (a n : ℕ) → ((i : ℕ) → a ≤ i → i < a + n → p i ≡ true) → every p a n ≡ true
   every_from a zero h = refl
-  every_from a (suc n) h = and_from (p a) (every p (a + 1) n) (h a (omega arith) (omega arith)) (every_from (a + 1) n (λ i l u. h i (omega arith) (omega arith)))
+  every_from a (suc n) h = grind (arith, h a, every_from (a + 1) n (λ i l u. h i (omega arith) (omega arith)))
 
   each_passes : (n : ℕ) → first_failing p 0 n ≡ None → (i : ℕ) → i < n → p i ≡ true
   each_passes n h i l = let e : n - 0 ≡ n = omega arith in all_between_at p 0 n (ap (every p 0) e ∙ none_fails 0 n h) i (omega arith) l
@@ -67,8 +62,8 @@ module _ (p : ℕ → Bool) where
 
 -- the two refusals that may come
 faults_none : (q r : ℕ → ReadRefusal) (x y : Option ℕ) → at_fault q x (at_fault r y None) ≡ None → (x ≡ None) × (y ≡ None)
-faults_none q r (Some n) y h = absurd (some_not_none (q n) h)
-faults_none q r None (Some n) h = absurd (some_not_none (r n) h)
+faults_none q r (Some n) y h = absurd (grind arith)
+faults_none q r None (Some n) h = absurd (grind arith)
 faults_none q r None None h = (refl, refl)
 
 -- the bits of x are in order exactly where its order clauses are true
@@ -78,10 +73,7 @@ module _ (rs : List Range) (β : ℕ → Bool) (x : ℕ) where
   steps-down t = not (truth β (reach rs x (t + 1))) || truth β (reach rs x t)
 
   step_is : (t : ℕ) → (truth β (opposite (reach rs x (t + 1))) || (truth β (reach rs x t) || false)) ≡ steps-down t
-  step_is t = same (truth β (opposite (reach rs x (t + 1)))) (truth β (reach rs x (t + 1))) (truth β (reach rs x t)) (truth_opposite β (reach rs x (t + 1)))
-    where
-      same : (a b c : Bool) → a ≡ not b → (a || (c || false)) ≡ (not b || c)
-      same a b c e = grind arith
+  step_is t = grind (arith, truth_opposite β (reach rs x (t + 1)))
 
   ordered_clauses : in_order rs β x ≡ true → AllByRecursion (TrueBy rs β) (order rs x)
   ordered_clauses h = all_between_from (step x) (TrueBy rs β) (low rs x + 1) (high rs x) (λ t l u. (step_is t ∙ all_between_at steps-down (low rs x + 1) (high rs x) h t l u, tt))
@@ -123,10 +115,7 @@ module _ (k : Catalogue) (v : View) (a : ℕ → Bool) where
   void_judged e = cond-true _ _ _ e
 
   pub judged_not_void : judged k v a ≡ None → v.void ≡ false
-  judged_not_void h = elim (cases_Bool v.void) [
-    | inl e ↦ absurd (some_not_none VoidJob (sym (void_judged e) ∙ h))
-    | inr e ↦ e
-  ]
+  judged_not_void h = grind (arith, void_judged)
 
   -- reading finds no fault exactly where the bits show values that meet each row
   pub judged_reads : judged k v a ≡ None → Read (rules k v) v.root (bits_by v a)
@@ -158,7 +147,7 @@ numbers_of v w m = bits v.ranges w (bit_numbered v.root m (total_bits v.ranges))
 -- where they number no free bit they are false, whatever the values
 no_bit : (rs : List Range) (w : ℕ → ℕ) (n : ℕ) → bit_below rs w n 0 ≡ false
 no_bit rs w zero = refl
-no_bit rs w (suc x) = cond-false _ _ _ (le-ltb (first rs x) 0 (omega arith)) ∙ no_bit rs w x
+no_bit rs w (suc x) = grind (arith, nat_tests, no_bit rs w x)
 
 pub numbers_outside : (v : View) (w : ℕ → ℕ) (m : ℕ) → (m ≡ 0) ⊎ (free_bits v < m) → numbers_of v w m ≡ false
 numbers_outside v w m h =

@@ -1,6 +1,6 @@
 -- The bits that values give, and the values that bits give. Assumes nothing.
 use Rattle.std.proofs.Common.{◌≡◌, ℕ, zero, suc, ◌+◌, ◌-◌, ◌<◌, ◌≤◌, Bool, true, false, cond, ltb, leb, List, [], ◌∷◌, length, sym, refl, ap, ◌∙◌, inl, inr, arith}
-use Rattle.std.proofs.lemmas.Bool.{cases_lt, cases_eq, lt-ltb, le-ltb, le-leb, lt-leb, cond-true, cond-false}
+use Rattle.std.proofs.lemmas.Bool.{cases_lt, cases_eq, lt-ltb, cond-true}
 use Rattle.std.proofs.lemmas.Bool.Decides.{nat_tests}
 use Rattle.order.specs.declared.bound.Bound.{Bound}
 use Rattle.order.specs.declared.literal.Literal.{Literal}
@@ -20,20 +20,10 @@ module _ (rs : List Range) where
   module _ (v : ℕ → ℕ) where
     -- the bit of X(t) is true as the value reaches t
     bit_reaches : (m x t : ℕ) → x < m → low rs x < t → t ≤ high rs x → bit_below rs v m (first rs x + (t - low rs x)) ≡ leb t (v x)
-    bit_reaches zero x t h l u = elim (none x h) [ ]
-      where
-        none : (x : ℕ) → x < 0 → ⊥
-        none x h = omega arith
+    bit_reaches zero x t h l u = absurd (omega arith)
     bit_reaches (suc m) x t h l u = elim (cases_eq x m) [
-      | inl e ↦
-          let n : ℕ = first rs x + (t - low rs x) in
-          let k : low rs x + (n - first rs x) ≡ t = omega arith in
-          let p : ltb (first rs x) n ≡ true = lt-ltb (first rs x) n (omega arith) in
-          rw (← e) (cond-true _ _ _ p ∙ ap (λ t. leb t (v x)) k)
-      | inr ne ↦
-          let n : ℕ = first rs x + (t - low rs x) in
-          let g = first_rises rs x m (omega arith) in
-          cond-false _ _ _ (le-ltb (first rs m) n (omega arith)) ∙ bit_reaches m x t (omega arith) l u
+      | inl e ↦ rw (← e) (grind (arith, nat_tests))
+      | inr ne ↦ grind (arith, nat_tests, first_rises rs x m, bit_reaches m x t)
     ]
 
     -- values in range are shown by their bits
@@ -42,18 +32,15 @@ module _ (rs : List Range) where
         let a = i.above x in
         let b = i.below x in
         elim (cases_lt (low rs x) t) [
-          | inr l ↦ ap (truth (bits rs v)) (reach_low rs x t l) ∙ sym (le-leb t (v x) (omega arith))
+          | inr l ↦ grind (arith, nat_tests, reach_low rs x t l)
           | inl l ↦ elim (cases_lt (high rs x) t) [
-            | inl g ↦ ap (truth (bits rs v)) (reach_high rs x t l g) ∙ sym (lt-leb t (v x) (omega arith))
+            | inl g ↦ grind (arith, nat_tests, reach_high rs x t l g)
             | inr g ↦ ap (truth (bits rs v)) (reach_inside rs x t l g) ∙ bit_reaches (length rs) x t (there x t l g) l g
           ]
         ]
       where
         there : (x t : ℕ) → low rs x < t → t ≤ high rs x → x < (length rs)
-        there x t l g = elim (cases_lt x (length rs)) [
-          | inl h ↦ h
-          | inr h ↦ let e = absent rs x h in omega arith
-        ]
+        there x t l g = grind (arith, absent rs x)
 
     -- and count back to them
     pub value_bits : InRange rs v → (x : ℕ) → value rs (bits rs v) x ≡ v x
@@ -62,12 +49,9 @@ module _ (rs : List Range) where
   module _ (β : ℕ → Bool) (v : ℕ → ℕ) (s : Shows rs β v) where
     -- bits that show values are the bits of those values
     bits_below : (m n : ℕ) → 0 < n → n ≤ first rs m → bit_below rs v m n ≡ β n
-    bits_below zero n h l = elim (none n h l) [ ]
-      where
-        none : (n : ℕ) → 0 < n → n ≤ 0 → ⊥
-        none n h l = omega arith
+    bits_below zero n h l = absurd (omega arith)
     bits_below (suc m) n h l = elim (cases_lt (first rs m) n) [
-      | inr g ↦ cond-false _ _ _ (le-ltb (first rs m) n g) ∙ bits_below m n h g
+      | inr g ↦ grind (arith, nat_tests, bits_below m n h g)
       | inl g ↦
           let t : ℕ = low rs m + (n - first rs m) in
           let e : first rs m + (t - low rs m) ≡ n = omega arith in

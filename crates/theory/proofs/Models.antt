@@ -1,7 +1,8 @@
 -- The truth under a solution is a closed set of ties. Assumes nothing.
-use Rattle.std.proofs.Common.{◌≡◌, ℕ, Bool, true, false, cond, not, ◌&&◌, ◌||◌, List, [], ◌∷◌, sym, refl, ap, ◌∙◌, arith}
+use Rattle.std.proofs.Common.{◌≡◌, ℕ, Bool, true, false, not, List, [], ◌∷◌, sym, refl, ap, ◌∙◌, arith}
 use Rattle.std.specs.List.{AllByRecursion}
 use Rattle.std.proofs.ByRecursion.{All-append, All-weaker}
+use Rattle.std.proofs.lemmas.Bool.{false≢true}
 use Rattle.order.specs.declared.literal.Literal.{Literal}
 use Rattle.order.specs.declared.literal.Literal.TheVariants.{True}
 use Rattle.order.specs.Between.{joined}
@@ -25,16 +26,10 @@ use Rattle.theory.proofs.Reading.{shows_orders, by_met}
 
 module _ (β : ℕ → Bool) where
   pub alike_equal : (l m : Literal) → alike β l m ≡ true → truth β l ≡ truth β m
-  alike_equal l m h = go (truth β l) (truth β m) h
-    where
-      go : (a b : Bool) → cond a b (not b) ≡ true → a ≡ b
-      go a b h = grind arith
+  alike_equal l m h = grind arith
 
   pub equal_alike : (l m : Literal) → truth β l ≡ truth β m → alike β l m ≡ true
-  equal_alike l m h = go (truth β l) (truth β m) h
-    where
-      go : (a b : Bool) → a ≡ b → cond a b (not b) ≡ true
-      go a b h = grind arith
+  equal_alike l m h = grind arith
 
   alike_ties : IsTies (alike β)
   alike_ties = record {
@@ -45,29 +40,17 @@ module _ (β : ℕ → Bool) where
   }
 
   alike_apart : (l : Literal) → alike β l (opposite l) ≡ false
-  alike_apart l = go (truth β l) (truth β (opposite l)) (truth_opposite β l)
-    where
-      go : (a b : Bool) → b ≡ not a → cond a b (not b) ≡ false
-      go a b h = grind arith
+  alike_apart l = grind (arith, truth_opposite β l)
 
   -- a true clause is not all false
   some_left : (c : List Literal) → some_true β c ≡ true → all_false (alike β) c ≡ false
   some_left [] h = sym h
-  some_left (l ∷ c) h = go (truth β l) (some_true β c) (all_false (alike β) c) h (some_left c)
-    where
-      go : (a s n : Bool) → (a || s) ≡ true → (s ≡ true → n ≡ false) → (cond a false true && n) ≡ false
-      go a s n h k = grind arith
+  some_left (l ∷ c) h = grind (arith, some_left c)
 
   -- and where its literals are false or alike, each of those is true
   last_true : (u : Literal) (c : List Literal) → some_true β c ≡ true → only (alike β) u c ≡ true → truth β u ≡ true
-  last_true u [] h o = absurd (no h)
-    where
-      no : false ≡ true → ⊥
-      no h = grind arith
-  last_true u (l ∷ c) h o = go (truth β l) (truth β u) (some_true β c) (only (alike β) u c) h o (last_true u c)
-    where
-      go : (a b s n : Bool) → (a || s) ≡ true → ((cond a false true || cond a b (not b)) && n) ≡ true → (s ≡ true → n ≡ true → b ≡ true) → b ≡ true
-      go a b s n h o k = grind arith
+  last_true u [] h o = absurd (false≢true h)
+  last_true u (l ∷ c) h o = grind (arith, last_true u c)
 
   true_heeds : (c : List Literal) → some_true β c ≡ true → Heeds (alike β) c
   true_heeds c h = record {

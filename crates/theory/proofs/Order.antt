@@ -1,13 +1,13 @@
 -- Bits in order stand for a value, and one only. Assumes nothing.
-use Rattle.std.proofs.Common.{◌≡◌, ℕ, suc, ◌+◌, ◌-◌, ◌<◌, ◌≤◌, Bool, true, false, not, ◌||◌, ltb, leb, List, [], ◌∷◌, length, get_or, sym, refl, ap, ◌∙◌, inl, inr, arith}
+use Rattle.std.proofs.Common.{◌≡◌, ℕ, suc, ◌+◌, ◌-◌, ◌<◌, ◌≤◌, Bool, true, ltb, leb, List, [], ◌∷◌, length, get_or, sym, refl, ap, ◌∙◌, inl, inr, arith}
 use Rattle.std.specs.List.{AllByRecursion}
 use Rattle.std.proofs.lemmas.List.{get_or_past}
-use Rattle.std.proofs.lemmas.Bool.{cases_lt, le-leb, lt-leb, lt-ltb, cond-true, cond-false}
+use Rattle.std.proofs.lemmas.Bool.{cases_lt}
 use Rattle.std.proofs.lemmas.Bool.Decides.{nat_tests}
 use Rattle.order.specs.declared.literal.Literal.TheVariants.{False, True, Bit}
 use Rattle.order.specs.declared.range.Range.{Range}
 use Rattle.order.specs.Bounds.{reach, reaches, misses}
-use Rattle.order.specs.Literals.{opposite, truth}
+use Rattle.order.specs.Literals.{truth}
 use Rattle.order.specs.Orders.{step, order}
 use Rattle.order.specs.Ranges.{low, high, width, first, no_range}
 use Rattle.order.proofs.Ranging.{reach_bit}
@@ -27,10 +27,10 @@ absent rs x h =
 module _ (rs : List Range) (x : ℕ) where
   -- the literal of a bound within the range is a bit
   pub reach_low : (t : ℕ) → t ≤ low rs x → reach rs x t ≡ True
-  reach_low t h = cond-true _ _ _ (le-leb t (low rs x) h)
+  reach_low t h = grind (arith, nat_tests)
 
   pub reach_high : (t : ℕ) → low rs x < t → high rs x < t → reach rs x t ≡ False
-  reach_high t l h = cond-false _ _ _ (lt-leb t (low rs x) l) ∙ cond-true _ _ _ (lt-ltb (high rs x) t h)
+  reach_high t l h = grind (arith, nat_tests)
 
   pub reach_inside : (t : ℕ) → low rs x < t → t ≤ high rs x → reach rs x t ≡ Bit (first rs x + (t - low rs x))
   reach_inside t l h = sym (reach_bit rs x t (first rs x) (low rs x) (get_or rs x no_range) refl refl refl l h)
@@ -53,9 +53,9 @@ module _ (rs : List Range) (β : ℕ → Bool) (x : ℕ) where
 
   says_from : (n : ℕ) → low rs x ≤ n → n ≤ high rs x → ((k : ℕ) → k < width rs x → passes k ≡ ltb k (n - low rs x)) → Says rs β x n
   says_from n a b h t = elim (cases_lt (low rs x) t) [
-    | inr l ↦ ap (truth β) (reach_low rs x t l) ∙ sym (le-leb t n (omega arith))
+    | inr l ↦ grind (arith, nat_tests, reach_low rs x t l)
     | inl l ↦ elim (cases_lt (high rs x) t) [
-      | inl g ↦ ap (truth β) (reach_high rs x t l g) ∙ sym (lt-leb t n (omega arith))
+      | inl g ↦ grind (arith, nat_tests, reach_high rs x t l g)
       | inr g ↦
           let k : ℕ = t - suc (low rs x) in
           let e : t ≡ low rs x + suc k = omega arith in
@@ -77,12 +77,7 @@ module _ (rs : List Range) (β : ℕ → Bool) (x : ℕ) where
       omega arith
 
   step_says : (t : ℕ) → TrueBy rs β (misses x (t + 1) ∷ reaches x t ∷ []) → truth β (reach rs x (t + 1)) ≡ true → truth β (reach rs x t) ≡ true
-  step_says t h g =
-      let o = truth_opposite β (reach rs x (t + 1)) in
-      implied (truth β (opposite (reach rs x (t + 1)))) (truth β (reach rs x (t + 1))) (truth β (reach rs x t)) o h g
-    where
-      implied : (n p q : Bool) → n ≡ not p → (n || (q || false)) ≡ true → p ≡ true → q ≡ true
-      implied n p q e h g = grind arith
+  step_says t h g = grind (arith, truth_opposite β (reach rs x (t + 1)))
 
   order_falls : AllByRecursion (TrueBy rs β) (order rs x) → Falling passes (width rs x)
   order_falls h k l p =
@@ -104,11 +99,4 @@ module _ (rs : List Range) (β : ℕ → Bool) (x : ℕ) where
   says_order n h = all_between_from (step x) (TrueBy rs β) (low rs x + 1) (high rs x) (λ t l u. (one t, tt))
     where
       one : (t : ℕ) → TrueBy rs β (misses x (t + 1) ∷ reaches x t ∷ [])
-      one t =
-          let o = truth_opposite β (reach rs x (t + 1)) in
-          let p = h (t + 1) in
-          let q = h t in
-          implied (truth β (opposite (reach rs x (t + 1)))) (truth β (reach rs x (t + 1))) (truth β (reach rs x t)) t n o p q
-        where
-          implied : (a b c : Bool) (t n : ℕ) → a ≡ not b → b ≡ leb (t + 1) n → c ≡ leb t n → (a || (c || false)) ≡ true
-          implied a b c t n o p q = grind (arith, nat_tests)
+      one t = grind (arith, nat_tests, truth_opposite β (reach rs x (t + 1)), h (t + 1), h t)

@@ -1,6 +1,6 @@
 -- What is written of a clause is satisfied as the clause is. Assumes nothing.
 use Rattle.std.proofs.Common.{◌≡◌, ℕ, Bool, true, false, not, ◌&&◌, ◌||◌, List, [], ◌∷◌, ◌++◌, map, fold, sym, refl, ap, ◌∙◌, inl, inr, arith}
-use Rattle.std.proofs.lemmas.Bool.{cases_Bool, or_cases, or_left, or_right}
+use Rattle.std.proofs.lemmas.Bool.{false≢true, cases_Bool, or_cases, or_left, or_right}
 use Rattle.order.specs.declared.literal.Literal.{Literal}
 use Rattle.order.specs.declared.literal.Literal.TheVariants.{False, True}
 use Rattle.order.specs.Literals.{opposite, same, truth}
@@ -57,10 +57,7 @@ module _ (α : ℕ → Bool) where
 
   -- a clause with a literal and its opposite is true
   pub some_opposed : (c : List Literal) → opposed c ≡ true → some_true α c ≡ true
-  some_opposed [] h = absurd (no h)
-    where
-      no : false ≡ true → ⊥
-      no h = grind arith
+  some_opposed [] h = absurd (false≢true h)
   some_opposed (l ∷ c) h = elim (or_cases (has c (opposite l)) (opposed c) h) [
     | inr g ↦ or_right (truth α l) (some_true α c) (some_opposed c g)
     | inl g ↦ either (truth α l) (truth α (opposite l)) (some_true α c) (truth_opposite α l) (some_from_has c (opposite l) g)

@@ -2,7 +2,7 @@
 use Rattle.std.proofs.Common.{◌≡◌, ℕ, ◌≤◌, true, false, not, List, [], ◌∷◌, map, sym, refl, ap, ◌∙◌, subst, inl, inr, arith}
 use Rattle.std.specs.List.{AllByRecursion}
 use Rattle.std.proofs.ByRecursion.{All-weaker}
-use Rattle.std.proofs.lemmas.Bool.{and_parts, or_cases, or_left}
+use Rattle.std.proofs.lemmas.Bool.{false≢true, and_parts, or_cases, or_left}
 use Rattle.std.proofs.lemmas.Bool.Decides.{nat_tests}
 use Rattle.order.specs.declared.bound.Bound.{Bound}
 use Rattle.order.specs.declared.literal.Literal.{Literal}
@@ -92,17 +92,11 @@ module _ (rs : List Range) where
         (sym (has_struck c u) ∙ ap (λ d. has d u) (sym is) ∙ or_left (same u u) false (same_itself u))).0
 
     left_open : u ≡ True → ⊥
-    left_open e = none (sym (left_out c (or_left (has c True) (opposed c) (ap (has c) (sym e) ∙ left_has))) ∙ one)
-      where
-        none : {X : Type 0} {x : X} {xs : List X} → [] ≡ x ∷ xs → ⊥
-        none {X} {x} {xs} e = let z : ◌≡◌ {A = ℕ} 0 1 = cc in omega arith
+    left_open e = grind (arith, left_out c (or_left (has c True) (opposed c) (ap (has c) (sym e) ∙ left_has)))
 
   -- a literal of a clause of roots is its own root
   own_root : (g : ℕ → Literal) → Fixed g → (d : List Literal) (u : Literal) → has (map (root_by g) d) u ≡ true → root_by g u ≡ u
-  own_root g fixed [] u h = absurd (no h)
-    where
-      no : false ≡ true → ⊥
-      no h = grind arith
+  own_root g fixed [] u h = absurd (false≢true h)
   own_root g fixed (l ∷ d) u h =
       elim (or_cases (same (root_by g l) u) (has (map (root_by g) d) u) h) [
         | inl e ↦ let is = equal_from_same (root_by g l) u e in ap (root_by g) (sym is) ∙ root_by_twice g fixed l ∙ is

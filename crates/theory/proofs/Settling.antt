@@ -2,7 +2,7 @@
 use Rattle.std.proofs.Common.{◌≡◌, ℕ, suc, ◌<◌, ◌≤◌, Bool, true, false, not, ◌&&◌, ◌||◌, ◌⊎◌, List, [], ◌∷◌, map, length, fold, sym, refl, ap, ◌∙◌, inl, inr, arith}
 use Rattle.std.specs.List.{ContainsAt, AllByRecursion}
 use Rattle.std.proofs.ByRecursion.{All-weaker}
-use Rattle.std.proofs.lemmas.Bool.{cases_Bool, cases_lt, cond-true, and_parts, and_from, or_cases, or_parts, or_left, or_right, both_ways}
+use Rattle.std.proofs.lemmas.Bool.{false≢true, cases_Bool, cases_lt, and_parts, and_from, or_cases, or_parts, or_left, or_right, both_ways}
 use Rattle.order.specs.declared.bound.Bound.{Bound}
 use Rattle.order.specs.declared.literal.Literal.{Literal}
 use Rattle.order.specs.declared.literal.Literal.TheVariants.{False, True}
@@ -31,16 +31,10 @@ only_among f u (l ∷ c) = ap (λ b. (same (root_by f l) False || same (root_by 
 
 false_among : (f : ℕ → Literal) (c : List Literal) → all_false (tied f) c ≡ among False (map (root_by f) c)
 false_among f [] = refl
-false_among f (l ∷ c) = ap (λ b. same (root_by f l) False && b) (false_among f c) ∙ ap (λ b. b && among False (map (root_by f) c)) (twice (same (root_by f l) False))
-  where
-    twice : (b : Bool) → b ≡ (b || b)
-    twice b = grind arith
+false_among f (l ∷ c) = grind (arith, false_among f c)
 
 among_has : (u : Literal) (d : List Literal) → among u d ≡ true → (l : Literal) → has d l ≡ true → (l ≡ False) ⊎ (l ≡ u)
-among_has u [] h l q = absurd (no q)
-  where
-    no : false ≡ true → ⊥
-    no h = grind arith
+among_has u [] h l q = absurd (false≢true q)
 among_has u (m ∷ d) h l q =
     let p = and_parts (same m False || same m u) (among u d) h in
     elim (or_cases (same m l) (has d l) q) [
@@ -61,10 +55,7 @@ among_from u (l ∷ d) h = and_from (same l False || same l u) (among u d)
 
 -- False or u alone: nothing is left, or u
 add_one : (u l : Literal) → (same l False || same l u) ≡ true → add (u ∷ []) l ≡ u ∷ []
-add_one u l h = cond-true _ _ _ (turned u l h)
-  where
-    turned : (u l : Literal) → (same l False || same l u) ≡ true → (same l False || (same u l || false)) ≡ true
-    turned u l h = grind (arith, same_tells)
+add_one u l h = grind (arith, same_tells)
 
 add_none : (u l : Literal) → (same l False || same l u) ≡ true → (add [] l ≡ []) ⊎ (add [] l ≡ u ∷ [])
 add_none u l h = elim (cases_Bool (same l False)) [
@@ -157,10 +148,7 @@ among_short u d n h long =
     ]
 
 has_map : (g : Literal → Literal) (c : List Literal) (m : Literal) → has (map g c) m ≡ true → (u : Literal) × (has c u ≡ true) × (g u ≡ m)
-has_map g [] m h = absurd (no h)
-  where
-    no : false ≡ true → ⊥
-    no h = grind arith
+has_map g [] m h = absurd (false≢true h)
 has_map g (l ∷ c) m h = elim (or_cases (same (g l) m) (has (map g c) m) h) [
   | inl e ↦ (l, or_left (same l l) (has c l) (same_itself l), equal_from_same (g l) m e)
   | inr q ↦ let i = has_map g c m q in (i.0, or_right (same l i.0) (has c i.0) i.1, i.2)
