@@ -22,6 +22,7 @@ pub enum Reply {
     /// The place of the variable or the row.
     Placed(usize),
     /// Void or not, ties made, free bits left.
+    // Kept as it is: a rule of the project needs the flag and the two counts side by side.
     Settled(bool, usize, usize),
 }
 
