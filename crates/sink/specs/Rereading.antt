@@ -92,17 +92,14 @@ clause_of line = line_lits (words line)
 -- a clause that is written is read again
 pub clause_again : (c : List Lit) → Small c → map clause_of (lines (clause_line c)) ≡ c ∷ []
 clause_again c s =
-    ap (λ t. map clause_of (lines t)) (sym (clause_ends c))
-    ∙ ap (map clause_of) (lines_line (body c) ∙ split_one 10 (body c) (body_without c s))
-    ∙ ap (λ ls. ls ∷ []) (ap line_lits (body_words c s) ∙ words_lits c (48 ∷ []) s)
+    let e = split_one 10 (body c) (body_without c s) in
+    let f = words_lits c (48 ∷ []) s in
+    rw (← clause_ends c, lines_line, e, body_words c s) (ap (λ ls. ls ∷ []) f)
 
 -- the clauses of the lines up to an LF, and those of the lines after it
 pub clauses_append : (p q : List ℕ) → clauses_in (p ++ 10 ∷ q) ≡ clauses_in (p ++ 10 ∷ []) ++ map clause_of (lines q)
 clauses_append p q =
-    ap (λ ls. map clause_of (drop 1 ls)) (lines_append p q)
-    ∙ ap (map clause_of) (drop-append-le 1 (split 10 p) (lines q) (split_some 10 p))
-    ∙ map-append clause_of (drop 1 (split 10 p)) (lines q)
-    ∙ ap (λ ls. map clause_of (drop 1 ls) ++ map clause_of (lines q)) (sym (lines_line p))
+    rw (lines_append p q, lines_line p, drop-append-le 1 (split 10 p) (lines q) (split_some 10 p), map-append clause_of (drop 1 (split 10 p)) (lines q))
 
 -- a header's line, without its LF
 abbrev header_body : Header → List ℕ
@@ -123,17 +120,14 @@ lines_end : (p : List ℕ) (cs : List (List Lit)) → (q : List ℕ) × (p ++ 10
 lines_end p [] = (p, append-nil (p ++ 10 ∷ []))
 lines_end p (c ∷ cs) =
     let r = lines_end (p ++ 10 ∷ [] ++ body c) cs in
-    (r.0, sym (append_assoc (p ++ 10 ∷ []) (clause_line c) (clause_lines cs)) ∙ ap (λ t. t ++ clause_lines cs) (ap (λ t. p ++ 10 ∷ [] ++ t) (sym (clause_ends c)) ∙ sym (append_assoc (p ++ 10 ∷ []) (body c) (10 ∷ []))) ∙ r.1)
+    (r.0, simp append_assoc (simp append_assoc at r.1))
+
+-- a clause after a text that ends with an LF
+clause_after : (text q : List ℕ) (c : List Lit) → Small c → text ≡ q ++ 10 ∷ [] → clauses_in (text ++ clause_line c) ≡ clauses_in text ++ c ∷ []
+clause_after text q c s e = rw (e, append_assoc q (10 ∷ []) (clause_line c), clauses_append q (clause_line c), clause_again c s)
 
 -- one clause more, in the clauses that a file holds
 pub clauses_more : (h : Header) (cs : List (List Lit)) (c : List Lit) → Small c → clauses_in (file (Some h) (cs ++ c ∷ [])) ≡ clauses_in (file (Some h) cs) ++ c ∷ []
 clauses_more h cs c s =
-    let text = file (Some h) cs in
     let r = lines_end (header_body h) cs in
-    let f : text ≡ r.0 ++ 10 ∷ [] = r.1 in
-    ap clauses_in (sym (flat_map_more clause_line (header_line h) cs c))
-    ∙ ap (λ t. clauses_in (t ++ clause_line c)) f
-    ∙ ap clauses_in (append_assoc r.0 (10 ∷ []) (clause_line c))
-    ∙ clauses_append r.0 (clause_line c)
-    ∙ ap (λ t. clauses_in t ++ map clause_of (lines (clause_line c))) (sym f)
-    ∙ ap (λ ls. clauses_in text ++ ls) (clause_again c s)
+    ap clauses_in (sym (flat_map_more clause_line (header_line h) cs c)) ∙ clause_after (file (Some h) cs) r.0 c s r.1

@@ -14,15 +14,14 @@ pub without_append : (x : ℕ) (a b : List ℕ) → Without x a → Without x b 
 without_append x [] b p q = q
 without_append x (c ∷ a) b p q = (p.0, without_append x a b p.1 q)
 
+onto_some : (b : ℕ) (ps : List (List ℕ)) → 1 ≤ length (onto b ps)
+onto_some b [] = omega arith
+onto_some b (p ∷ ps) = omega arith
+
 -- there is a first piece
 pub split_some : (x : ℕ) (t : List ℕ) → 1 ≤ length (split x t)
 split_some x [] = omega arith
-split_some x (b ∷ t) = go (b == x) (split x t)
-  where
-    go : (e : Bool) (ps : List (List ℕ)) → 1 ≤ length (cond e ([] ∷ ps) (onto b ps))
-    go true ps = omega arith
-    go false [] = omega arith
-    go false (p ∷ ps) = omega arith
+split_some x (b ∷ t) = grind (arith, onto_some b, split_some x t)
 
 -- a piece without x stands alone
 pub split_one : (x : ℕ) (p : List ℕ) → Without x p → split x p ≡ p ∷ []
