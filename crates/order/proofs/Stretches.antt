@@ -1,5 +1,5 @@
 -- Lists over a stretch of numbers, one number more. Assumes nothing.
-use Rattle.std.proofs.Common.{◌≡◌, ℕ, zero, suc, ◌+◌, ◌-◌, ◌≤◌, max, List, [], ◌++◌, sym, ap, ◌∙◌, append_assoc, arith}
+use Rattle.std.proofs.Common.{◌≡◌, ℕ, zero, suc, ◌+◌, ◌-◌, ◌≤◌, List, ◌++◌, sym, ap, ◌∙◌, append_assoc, arith}
 use Rattle.std.proofs.lemmas.List.{append-nil}
 use Rattle.order.specs.Between.{run, between}
 
@@ -11,15 +11,8 @@ module _ {X : Type 0} (f : ℕ → List X) where
       ∙ sym (append_assoc (f a) (run f (a + 1) n) (f (a + 1 + n)))
       ∙ ap (λ k. (f a ++ run f (a + 1) n) ++ f k) (omega arith)
 
-  pub between_none : (a b : ℕ) → b ≤ a → between f a b ≡ []
-  between_none a b h = let n : b - a ≡ 0 = omega arith in ap (run f a) n
-
   pub between_more : (a b : ℕ) → a ≤ b → between f a (b + 1) ≡ between f a b ++ f b
   between_more a b h =
       let n : b + 1 - a ≡ suc (b - a) = omega arith in
       let k : a + (b - a) ≡ b = omega arith in
       ap (run f a) n ∙ run_more a (b - a) ∙ ap (λ k. run f a (b - a) ++ f k) k
-
-  -- where a loop from a to b ends
-  pub between_end : (a b t : ℕ) → a ≤ t → b ≤ t → t ≤ max a b → between f a t ≡ between f a b
-  between_end a b t l u m = let n : t - a ≡ b - a = omega arith in ap (run f a) n

@@ -1,8 +1,8 @@
 -- What a visitor has gone through: one list after another. Assumes nothing.
-use Rattle.std.proofs.Common.{ℕ, ◌+◌, ◌≤◌, max, List, [], ◌∷◌, ◌++◌, sym, refl, subst}
+use Rattle.std.proofs.Common.{ℕ, ◌+◌, ◌≤◌, List, [], ◌∷◌, ◌++◌, sym, refl, subst}
 use Rattle.order.specs.Between.{between}
 use Rattle.order.specs.Visits.{After}
-use Rattle.order.proofs.Stretches.{between_more, between_end}
+use Rattle.order.proofs.Stretches.{between_more}
 
 module _ {S C : Type 0} (step : S → C → S → Type 0) where
   pub after_join : (cs ds : List C) (s t u : S) → After step s cs t → After step t ds u → After step s (cs ++ ds) u
@@ -17,6 +17,3 @@ module _ {S C : Type 0} (step : S → C → S → Type 0) where
     pub after_more : (t u : S) → a ≤ b → After step s (between f a b) t → After step t (f b) u → After step s (between f a (b + 1)) u
     after_more t u h k m =
         subst (λ cs. After step s cs u) (sym (between_more f a b h)) (after_join (between f a b) (f b) s t u k m)
-
-    pub after_end : (n : ℕ) (t : S) → a ≤ n → b ≤ n → n ≤ max a b → After step s (between f a n) t → After step s (between f a b) t
-    after_end n t l u m h = subst (λ cs. After step s cs t) (between_end f a b n l u m) h

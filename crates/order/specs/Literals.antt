@@ -1,5 +1,5 @@
 -- The literals: the constants, a bit (numbered from 1) and a bit's opposite. Assumes nothing.
-use Rattle.std.specs.Prelude.{ℕ, Bool, true, false, not, ◌==◌}
+use Rattle.std.specs.Prelude.{◌≡◌, ℕ, Bool, true, false, not, ◌==◌}
 pub use Rattle.order.specs.declared.literal.Literal.{Literal}
 pub use Rattle.order.specs.declared.literal.Literal.TheVariants.{False, True, Bit, Not}
 
@@ -34,3 +34,10 @@ truth β False = false
 truth β True = true
 truth β (Bit n) = β n
 truth β (Not n) = not (β n)
+
+-- whether a literal may be true, where R says what the truth of a bit may be
+abbrev pub TruthBy : (ℕ → Bool → Type 0) → Literal → Bool → Type 0
+TruthBy R False t = t ≡ false
+TruthBy R True t = t ≡ true
+TruthBy R (Bit n) t = R n t
+TruthBy R (Not n) t = R n (not t)

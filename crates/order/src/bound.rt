@@ -4,10 +4,11 @@ ghost use Rattle.order.specs.Bounds.{reaches, misses, turned};
 
 /// X(at), which says that the variable is at least `at`, or its opposite. A threshold below 0 says the
 /// same as 0, and is written so: no variable has a value below 0.
-#[derive(Clone, Copy, Debug)]
+#[derive(Clone, Copy, PartialEq, Eq, Debug)]
 pub struct Bound {
     pub variable: u16,
     pub at: u16,
+    // Kept as it is: an enum of two cases is no plainer, since both hold a `variable` and an `at`.
     pub opposed: bool,
 }
 
@@ -39,9 +40,8 @@ impl Bound {
         ensures { result ≡ turned self }
     {
         Bound {
-            variable: self.variable,
-            at: self.at,
             opposed: !self.opposed,
+            ..self
         }
     }
 }

@@ -1,6 +1,6 @@
 //! Literals: the constants, a bit and a bit's opposite.
 ghost use Rattle.std.specs.Prelude.{◌≡◌};
-ghost use Rattle.order.specs.Literals.{opposite};
+ghost use Rattle.order.specs.Literals.{opposite, TruthBy};
 
 /// A literal of a job. Bits are numbered from 1.
 #[derive(Clone, Copy, PartialEq, Eq, Debug)]
@@ -21,6 +21,19 @@ impl Literal {
             Literal::True => Literal::False,
             Literal::Bit(n) => Literal::Not(n),
             Literal::Not(n) => Literal::Bit(n),
+        }
+    }
+
+    /// Whether it is true, by the truth of each bit.
+    pub fn truth<F: Fn(u16) -> bool>(self, bit: F) -> bool
+        requires { F.IsAlwaysCallable bit }
+        ensures { TruthBy (F.post bit) self result }
+    {
+        match self {
+            Literal::False => false,
+            Literal::True => true,
+            Literal::Bit(n) => bit(n),
+            Literal::Not(n) => !bit(n),
         }
     }
 }

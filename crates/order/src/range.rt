@@ -4,7 +4,7 @@ mod making;
 ghost use Rattle.std.specs.Prelude.{◌≤◌};
 
 /// The values that a variable may take: `low` to `high`, both included, at most 255.
-#[derive(Clone, Copy, Debug)]
+#[derive(Clone, Copy, PartialEq, Eq, Debug)]
 pub struct Range {
     low: u8,
     high: u8,

@@ -12,6 +12,7 @@ use crate::range::Range;
 /// Entry x of `before` is the number of bits that come before those of variable x.
 #[derive(Drop)]
 pub struct Variables {
+    // Kept as it is: one list of pairs is no plainer, since the kinds are lent the ranges as one slice.
     ranges: Vec<Range>,
     before: Vec<u16>,
     bits: usize,

@@ -4,19 +4,15 @@ ghost use Rattle.order.specs.Ranges.{is_range, range};
 
 use super::Range;
 
-/// The greatest value that a range may have.
-const HIGHEST: u32 = 255;
-
 impl Range {
     /// The range from `low` to `high`; none unless low ≤ high ≤ 255.
     pub fn new(low: u32, high: u32) -> Option<Range>
         ensures { result ≡ (if is_range low high then Some (range low high) else None) }
     {
-        if low <= high && high <= HIGHEST {
-            Some(Range {
-                low: low as u8,
-                high: high as u8,
-            })
+        let low = u8::try_from(low).ok()?;
+        let high = u8::try_from(high).ok()?;
+        if low <= high {
+            Some(Range { low, high })
         } else {
             None
         }

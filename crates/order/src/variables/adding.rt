@@ -1,5 +1,6 @@
 //! A new list of variables, and one variable more.
 ghost use Rattle.std.specs.Prelude.{◌≡◌, true, [], MatchResult};
+ghost use Rattle.order.specs.declared.variables.adding.AddError.TheVariants.{NoMemory};
 ghost use Rattle.order.specs.Variables.{ranges_of, Adds, Spare, Keeps, answered};
 
 use super::Variables;
@@ -7,11 +8,19 @@ use crate::range::Range;
 use std::alloc::{AllocError, Global};
 
 /// Why a variable was not added.
-#[derive(Clone, Copy, Debug)]
+#[derive(Clone, Copy, PartialEq, Eq, Debug)]
 pub enum AddError {
     TooManyVariables,
     TooManyBits,
     NoMemory,
+}
+
+impl From<AllocError> for AddError {
+    ghost from_gives = { λ _ e. e ≡ NoMemory };
+
+    fn from(_e: AllocError) -> AddError {
+        AddError::NoMemory
+    }
 }
 
 impl Variables {
@@ -52,9 +61,7 @@ impl Variables {
         if bits > 4096 {
             return Err(AddError::TooManyBits);
         }
-        if self.reserve(1).is_err() {
-            return Err(AddError::NoMemory);
-        }
+        self.reserve(1)?;
         self.ranges.push_reserved(range);
         self.before.push_reserved(self.bits as u16);
         self.bits = bits;

@@ -22,12 +22,11 @@ impl Variables {
     pub fn visit_order<V: Visitor>(&self, x: usize, visitor: &mut V)
         ensures { After V.Visitor.step visitor.old (order (ranges_of self.now) x) visitor.new }
     {
-        if x >= self.ranges.len() {
+        let Some(range) = self.ranges.get(x) else {
             return;
-        }
-        let range = self.ranges[x];
+        };
         let variable = x as u16;
-        for t in range.low() as u16 + 1..range.high() as u16 {
+        for t in u16::from(range.low()) + 1..u16::from(range.high()) {
             visitor.visit(&step(variable, t));
         }
     }

@@ -35,19 +35,18 @@ impl Variables {
     fn reach(&self, variable: u16, at: u16) -> Literal
         ensures { result ≡ reach (ranges_of self.now) variable at }
     {
-        let x = variable as usize;
-        if x >= self.ranges.len() {
+        let x = usize::from(variable);
+        let Some(range) = self.ranges.get(x) else {
             return if at == 0 {
                 Literal::True
             } else {
                 Literal::False
             };
-        }
-        let range = self.ranges[x];
-        let low = range.low() as u16;
+        };
+        let low = u16::from(range.low());
         if at <= low {
             Literal::True
-        } else if at > range.high() as u16 {
+        } else if at > u16::from(range.high()) {
             Literal::False
         } else {
             Literal::Bit(self.before[x] + (at - low))
