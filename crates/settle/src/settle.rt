@@ -31,11 +31,11 @@ pub fn settle<K: Kinds>(
     }
     let mut clauses = Clauses::new(heap);
     let mut pairings = Pairings::new(heap);
-    let mut now = ties.copy(heap)?;
-    let mut before = ties.copy(heap)?;
+    let mut now = ties.clone()?;
+    let mut before = ties.clone()?;
     let mut first = true;
     loop {
-        let start = now.copy(heap)?;
+        let start = now.clone()?;
         if !walk::<K>(
             variables,
             rows,

@@ -27,9 +27,6 @@ count_less p q m (suc n) lt was is other =
           omega (arith, ap one_if (other n (omega arith) ne), count_less p q m n (omega arith) was is (λ k h. other k (omega arith)))
     ]
 
-pub free_same : (f g : ℕ → Literal) (n : ℕ) → ((k : ℕ) → k ≤ n → own f k ≡ own g k) → free_to f n ≡ free_to g n
-free_same f g n h = count_same (λ k. own f (suc k)) (λ k. own g (suc k)) n (λ k lt. h (suc k) (omega arith))
-
 -- a bit that was free is free no more
 pub free_less : (f g : ℕ → Literal) (m n : ℕ) → 0 < m → m ≤ n → own f m ≡ true → own g m ≡ false → ((k : ℕ) → k ≤ n → (k ≡ m → ⊥) → own f k ≡ own g k) → free_to f n ≡ free_to g n + 1
 free_less f g zero n some le was is other = absurd (omega arith)

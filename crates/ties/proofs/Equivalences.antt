@@ -2,7 +2,7 @@
 use Rattle.std.proofs.Common.{◌≡◌, ℕ, ◌≤◌, true, sym, refl, ap, ◌∙◌, subst, arith}
 use Rattle.order.specs.declared.literal.Literal.{Literal}
 use Rattle.order.specs.Literals.{opposite}
-use Rattle.ties.specs.Relations.{Relation, IsTies, Least, Consistent}
+use Rattle.ties.specs.Relations.{Relation, IsTies, Least}
 use Rattle.ties.specs.Roots.{rank, root_by, tied, Lower, Fixed}
 use Rattle.order.proofs.Signs.{same_from_equal, equal_from_same, opposite_opposite}
 
@@ -26,9 +26,6 @@ tied_is_ties f = record {
   transitive = λ x y z h k. roots_tie f x z (tied_roots f x y h ∙ tied_roots f y z k);
   opposites = λ x y h. roots_tie f (opposite x) (opposite y) (root_by_opposite f x ∙ ap opposite (tied_roots f x y h) ∙ sym (root_by_opposite f y));
 }
-
-pub tied_consistent : (f : ℕ → Literal) → Consistent (tied f)
-tied_consistent f = refl
 
 -- each literal is tied to its root
 pub tied_to_root : (f : ℕ → Literal) → Fixed f → (x : Literal) → tied f x (root_by f x) ≡ true

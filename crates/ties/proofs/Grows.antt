@@ -40,9 +40,6 @@ module _ (rs : List Literal) where
       subst (Grown rs 1) (sym (e ∙ ap (λ n. rs ++ Bit n ∷ []) k))
       (record { long = length_push rs _; roots = roots_push; freed = free_push })
 
-pub grown_none : (rs : List Literal) → Grown rs 0 rs
-grown_none rs = record { long = omega arith; roots = refl; freed = omega arith }
-
 pub grown_more : {rs rs' rs'' : List Literal} {n : ℕ} → Grown rs n rs' → Grown rs' 1 rs'' → Grown rs (n + 1) rs''
 grown_more g h = record {
   long = omega (arith, g.long, h.long);

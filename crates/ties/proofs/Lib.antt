@@ -1,5 +1,4 @@
 pub mod Counts
-pub mod Entries
 pub mod Equivalences
 pub mod Grows
 pub mod Moves

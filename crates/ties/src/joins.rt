@@ -6,7 +6,7 @@ ghost use Rattle.ties.specs.Moves.{replaced, Meets};
 use order::literal::Literal;
 
 /// What joining two literals came to: only at `Made` is there a tie that was not there before.
-#[derive(Clone, Copy, PartialEq, Debug)]
+#[derive(Clone, Copy, PartialEq, Eq, Debug)]
 pub enum Joined {
     /// They were tied already.
     Same,
@@ -19,14 +19,15 @@ pub enum Joined {
 }
 
 // The place of `l` in the order of the literals.
+// Kept as it is: an `Ord` is no plainer; a derived one puts all bits before all opposites, and one by hand needs its laws.
 fn rank(l: Literal) -> u32
     ensures { result ≡ rank l }
 {
     match l {
         Literal::False => 0,
         Literal::True => 1,
-        Literal::Bit(n) => 2 * n as u32,
-        Literal::Not(n) => 2 * n as u32 + 1,
+        Literal::Bit(n) => 2 * u32::from(n),
+        Literal::Not(n) => 2 * u32::from(n) + 1,
     }
 }
 
@@ -68,7 +69,7 @@ fn replaced(l: Literal, old: Literal, new: Literal) -> Literal
 pub(crate) fn replace_all(roots: &mut [Literal], old: Literal, new: Literal)
     ensures { roots.new ≡ map (replaced old new) roots.old }
 {
-    for i in 0..roots.len() {
-        roots[i] = replaced(roots[i], old, new);
+    for root in roots {
+        *root = replaced(*root, old, new);
     }
 }

@@ -26,7 +26,7 @@ fn settled(heap: Global, ranges: &[(u32, u32)]) -> Result<(usize, Option<usize>)
         1,
         &[Item::Variable(0), Item::Variable(1), Item::Variable(2)],
     )?;
-    let copy = ties.copy(heap)?;
+    let copy = ties.clone()?;
     match settle::<Base<End>>(heap, &variables, &rows, &copy)? {
         Some(after) => Ok((copy.free(), Some(after.free()))),
         None => Ok((copy.free(), None)),

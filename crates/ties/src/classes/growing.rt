@@ -1,5 +1,6 @@
 //! A new list of bits, and more of them.
-ghost use Rattle.std.specs.Prelude.{◌≡◌, ◌+◌, ◌<◌, ◌≤◌, true, [], IfOk, vec_len, vec_capacity, MatchResult};
+ghost use Rattle.std.specs.Prelude.{◌≡◌, ◌+◌, ◌<◌, ◌≤◌, true, [], vec_len, vec_capacity, MatchResult};
+ghost use Rattle.ties.specs.declared.classes.growing.GrowError.TheVariants.{NoMemory};
 ghost use Rattle.ties.specs.Roots.{Grown};
 ghost use Rattle.ties.specs.Views.{roots_of};
 ghost use Rattle.ties.specs.Growth.{Grows, Spare, Keeps, answered};
@@ -12,10 +13,31 @@ use std::alloc::{AllocError, Global};
 const MAX_BITS: usize = 4096;
 
 /// Why no bits were added.
-#[derive(Clone, Copy, PartialEq, Debug)]
+#[derive(Clone, Copy, PartialEq, Eq, Debug)]
 pub enum GrowError {
     TooManyBits,
     NoMemory,
+}
+
+impl From<AllocError> for GrowError {
+    ghost from_gives = { λ _ e. e ≡ NoMemory };
+
+    fn from(_e: AllocError) -> GrowError {
+        GrowError::NoMemory
+    }
+}
+
+// By hand, since `Clone` is not derived for a struct with ghost fields.
+impl Clone for Ties {
+    ghost use Rattle.ties.specs.Views.{roots_of};
+
+    ghost is_clone = { λ ties copy. roots_of copy ≡ roots_of ties };
+
+    fn clone(&self) -> Result<Ties, AllocError> {
+        Ok(Ties {
+            roots: self.roots.clone()?,
+        })
+    }
 }
 
 impl Ties {
@@ -26,15 +48,6 @@ impl Ties {
         Ties {
             roots: Vec::new(heap),
         }
-    }
-
-    /// The same ties once more.
-    pub fn copy(&self, heap: Global) -> Result<Ties, AllocError>
-        ensures { IfOk result (λ t. roots_of t ≡ roots_of self.now) }
-    {
-        Ok(Ties {
-            roots: Vec::from_slice(heap, &self.roots)?,
-        })
     }
 
     // Adds a bit that is tied to nothing.
@@ -55,8 +68,7 @@ impl Ties {
         ensures room { MatchResult result (λ _. Spare self.new n) (λ _. (Spare self.old n → ⊥)) }
         ensures kept { Keeps self.old self.new }
     {
-        self.roots.reserve(n)?;
-        Ok(())
+        self.roots.reserve(n)
     }
 
     /// Adds `n` bits that are tied to nothing, or none at an error.
@@ -68,9 +80,7 @@ impl Ties {
         if n > MAX_BITS - self.roots.len() {
             return Err(GrowError::TooManyBits);
         }
-        if self.roots.reserve(n).is_err() {
-            return Err(GrowError::NoMemory);
-        }
+        self.reserve(n)?;
         for _i in 0..n {
             self.add();
         }

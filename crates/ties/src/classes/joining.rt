@@ -15,7 +15,7 @@ impl Ties {
         ensures { result ≡ there (length (roots_of self.now)) l }
     {
         match l {
-            Literal::Bit(n) | Literal::Not(n) => n > 0 && n as usize <= self.roots.len(),
+            Literal::Bit(n) | Literal::Not(n) => n > 0 && usize::from(n) <= self.roots.len(),
             _ => true,
         }
     }

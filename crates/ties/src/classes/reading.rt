@@ -35,11 +35,10 @@ impl Ties {
     fn bit_root(&self, n: u16) -> Literal
         ensures { result ≡ root_at (roots_of self.now) n }
     {
-        let n = n as usize;
-        if n == 0 || n > self.roots.len() {
-            return Literal::Bit(n as u16);
-        }
-        self.roots[n - 1]
+        usize::from(n)
+            .checked_sub(1)
+            .and_then(|k| self.roots.get(k).copied())
+            .unwrap_or(Literal::Bit(n))
     }
 
     /// The first literal that is tied to `l`: `l` itself where its bit is not there.

@@ -5,7 +5,7 @@ use Rattle.settle.proofs.Settled.{ready_none, ready_more, refused_here, closed_h
 use Rattle.settle.proofs.settle.settle.Goals as goal
 
 pub loop-before-init : goal.loop-before-init
-loop-before-init g c = ready_none _ (ranges_of c.args.variables.now) _ _ c.args.ties.now c.in_ok-now.ensures (omega (arith, c.len.ensures, c.bits.ensures))
+loop-before-init g c = ready_none _ (ranges_of c.args.variables.now) _ _ c.args.ties.now c.in_ok-now.ensures.cases (omega (arith, c.len.ensures, c.bits.ensures))
 
 pub returns-then-not-branch : goal.returns-then-not-branch
 returns-then-not-branch g c = record {
@@ -17,7 +17,7 @@ pub returns-then-free : goal.returns-then-free
 returns-then-free g c =
     let walks = c.in_ok-walk.ensures in
     let ready = ready_more c.loop-before.invariant _ _ walks.walked c.if-not-branch.false walks.further refl in
-    let same_free = sym c.free.ensures ∙ c.if-free.true ∙ c.free-in-loop-before.ensures ∙ ap free c.in_ok-start.ensures in
+    let same_free = sym c.free.ensures ∙ c.if-free.true ∙ c.free-in-loop-before.ensures ∙ ap free c.in_ok-start.ensures.cases in
     record {
       grows = λ level. ready.further;
       settles = λ level seated. (closed_here c.loop-before.invariant _ _ walks.walked c.if-not-branch.false walks.further same_free seated, ready.sound seated);
@@ -26,4 +26,4 @@ returns-then-free g c =
 pub loop-before-preserved : goal.loop-before-preserved
 loop-before-preserved g c =
     let walks = c.in_ok-walk.ensures in
-    ready_more c.loop-before.invariant _ _ walks.walked c.if-not-branch.false walks.further c.in_ok-start.ensures
+    ready_more c.loop-before.invariant _ _ walks.walked c.if-not-branch.false walks.further c.in_ok-start.ensures.cases

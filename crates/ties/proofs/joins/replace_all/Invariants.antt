@@ -2,6 +2,6 @@ use Rattle.std.proofs.Common.{◌≡◌, ◌++◌, map, take, drop}
 use Rattle.ties.specs.Moves.{replaced}
 use Rattle.ties.proofs.joins.replace_all.Given as goal
 
-abbrev pub invariant-loop-i : goal.invariant-loop-i
-invariant-loop-i l =
-    l.roots ≡ map (replaced l.old l.new) (take l.i l.initial.roots) ++ drop l.i l.initial.roots
+abbrev pub invariant-loop-root : goal.invariant-loop-root
+invariant-loop-root l =
+    l.root-items ≡ map (replaced l.old l.new) (take l.root-index l.fn.roots) ++ drop l.root-index l.fn.roots

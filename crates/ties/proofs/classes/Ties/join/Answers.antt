@@ -1,5 +1,4 @@
-use Rattle.std.proofs.Common.{◌≡◌, true, length, sym, refl, subst}
-use Rattle.std.proofs.lemmas.Bool.{both_ways, and_from}
+use Rattle.std.proofs.Common.{◌≡◌, true, length, sym, subst}
 use Rattle.ties.specs.Roots.{root_at, root_by, there}
 use Rattle.ties.proofs.Equivalences.{root_by_twice}
 use Rattle.ties.proofs.Moves.{root_there, merged_joins}
@@ -21,10 +20,6 @@ merge-requires c =
       apart = c.in-Made.ensures.1;
     }
 
-pub returns-in-Made : goal.returns-in-Made
-returns-in-Made c = record {
-  joins = merged_joins c.meet-joined.result c.in-Made.is c.merge.ensures c.args.self.now.fixed c.args.a c.args.b c.root-x.ensures.value c.root-y.ensures.value;
-  absent = λ h. absurd (both_ways _ h (and_from _ _ (sym c.if-not-has.ensures) (sym c.if-not-has-2.ensures)));
-  len = c.merge.ensures.long;
-  consistent = refl;
-}
+pub returns-in-Made-clause-joins : goal.returns-in-Made-clause-joins
+returns-in-Made-clause-joins c =
+    merged_joins c.meet-joined.result c.in-Made.is c.merge.ensures c.args.self.now.fixed c.args.a c.args.b c.root-x.ensures.value c.root-y.ensures.value
