@@ -31,5 +31,6 @@ pub(crate) fn push_decimal(out: &mut Vec<u8>, n: u32)
     if n >= 10 {
         push_decimal(out, n / 10);
     }
+    // Kept as it is: `From` does not narrow, and `try_from` would add an error that cannot come.
     out.push_reserved(b'0' + (n % 10) as u8);
 }

@@ -1,5 +1,5 @@
 //! Parts of a clause file's lines, counted and written into what is reserved.
-ghost use Rattle.std.specs.Prelude.{◌≡◌, [], ◌++◌, length, if◌then◌else◌, codes};
+ghost use Rattle.std.specs.Prelude.{◌≡◌, ◌++◌, length, codes};
 ghost use Rattle.sink.specs.Buffers.{Room, Appended};
 ghost use Rattle.sink.specs.Text.{lit_text};
 
@@ -25,22 +25,14 @@ pub(crate) fn push_bytes(out: &mut Vec<u8>, bytes: &[u8])
     }
 }
 
-/// Writes the minus of an opposite.
-fn push_sign(out: &mut Vec<u8>, negated: bool)
-    requires { Room out.old (if negated then codes "-" else []) }
-    ensures { Appended out.old out.new (if negated then codes "-" else []) }
-{
-    if negated {
-        out.push_reserved(b'-');
-    }
-}
-
 /// Writes a literal and the blank after it.
 pub(crate) fn push_lit(out: &mut Vec<u8>, l: Lit)
     requires { Room out.old (lit_text l ++ codes " ") }
     ensures { Appended out.old out.new (lit_text l ++ codes " ") }
 {
-    push_sign(out, l.negated);
+    if l.negated {
+        out.push_reserved(b'-');
+    }
     push_decimal(out, u32::from(l.variable));
     out.push_reserved(b' ');
 }

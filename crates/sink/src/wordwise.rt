@@ -51,6 +51,7 @@ impl Format for Words {
 
     fn push_header(out: &mut Vec<i32>, header: Header) {
         out.push_reserved(i32::from(header.variables));
+        // Kept as it is: `From` does not narrow, and `try_from` would add an error that cannot come.
         out.push_reserved(header.clauses as i32);
     }
 
