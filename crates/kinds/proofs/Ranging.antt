@@ -7,7 +7,7 @@ use Rattle.order.specs.Between.{run, between}
 use Rattle.kinds.specs.Tests.{any, every, some_between, all_between}
 
 -- a stretch has its first number, or begins one later
-from_next : (a i : ℕ) → a ≤ i → (a ≡ i) ⊎ (a + 1 ≤ i)
+pub from_next : (a i : ℕ) → a ≤ i → (a ≡ i) ⊎ (a + 1 ≤ i)
 from_next a i l = elim (cases_order a i) [ inl e ↦ inl e | inr (inl p) ↦ inr (omega arith) | inr (inr p) ↦ absurd (omega arith) ]
 
 none_in : (a i : ℕ) → a ≤ i → i < a + zero → ⊥

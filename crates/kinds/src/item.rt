@@ -1,8 +1,11 @@
 //! What stands in a row, and ties between bounds.
-ghost use Rattle.std.specs.Prelude.{◌≡◌};
+ghost use Rattle.std.specs.Prelude.{◌≡◌, ◌+◌, ◌^◌, ◌<◌};
+ghost use Rattle.kinds.specs.Families.{settled};
 ghost use Rattle.kinds.specs.Items.{variable_of, tie};
 
+use crate::reading;
 use order::bound::Bound;
+use order::range::Range;
 
 /// An item of a row: a variable, or a bound on one.
 #[derive(Clone, Copy, Debug)]
@@ -36,5 +39,20 @@ impl Tie {
         ensures { result ≡ tie left right }
     {
         Tie { left, right }
+    }
+
+    /// The ties that say that the variable is `value`: it reaches it as it reaches its least value, and what follows
+    /// it as it reaches what follows its greatest.
+    pub fn settled(ranges: &[Range], variable: u16, value: u16) -> [Tie; 2]
+        requires { value + 1 < 2 ^ 16 }
+        ensures { result ≡ settled ranges.now variable value }
+    {
+        let range = reading::range_of(ranges, variable);
+        let [low, high] = [range.low(), range.high()].map(u16::from);
+        let reaches = |at| Bound::at_least(variable, at);
+        [
+            Tie::between(reaches(value), reaches(low)),
+            Tie::between(reaches(value + 1), reaches(high + 1)),
+        ]
     }
 }

@@ -1,17 +1,26 @@
 //! Reading a row: its variables, and their ranges and values.
-ghost use Rattle.std.specs.Prelude.{◌≡◌};
+ghost use Rattle.std.specs.Prelude.{◌≡◌, map};
+ghost use Rattle.std.specs.List.{range_with_len};
 ghost use Rattle.order.specs.Ranges.{low, high};
 ghost use Rattle.kinds.specs.Items.{var, variables_only, plain};
 ghost use Rattle.kinds.specs.Meaning.{valued};
 
 use crate::item::Item;
 use order::range::Range;
+use std::{array, ops};
 
 /// The variable of the item at `k`, or 0 where there is none.
 pub fn variable_at(items: &[Item], k: usize) -> u16
     ensures { result ≡ var items.now k }
 {
     items.get(k).map_or(0, |item| item.variable())
+}
+
+/// The variables of the first N items, or 0 where there is no item.
+pub fn variables<const N: usize>(items: &[Item]) -> [u16; N]
+    ensures { result ≡ map (var items.now) (range_with_len 0 N) }
+{
+    array::from_fn(|k| variable_at(items, k))
 }
 
 /// The range of the variable; a variable that is not there has the value 0 alone.

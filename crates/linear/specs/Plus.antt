@@ -28,24 +28,29 @@ abbrev pub corners : List Range → ℕ → ℕ → ℕ → List (List Bound)
 corners rs a b c = between (corner_row rs a b c) (low rs a) (high rs a + 1)
 
 -- where P + Q is k, P reaches i as Q is below k + 1 - i; where Q - P is k, P reaches i as Q reaches k + i
-abbrev pub linked : Link → ℕ → ℕ → ℕ → ℕ → Tie
-linked Sum p q k i = tie (reaches p i) (misses q (k + 1 - i))
-linked Difference p q k i = tie (reaches p i) (reaches q (k + i))
+abbrev pub linked : Link → ℕ → ℕ → Tie
+linked (Sum p q) k i = tie (reaches p i) (misses q (k + 1 - i))
+linked (Difference p q) k i = tie (reaches p i) (reaches q (k + i))
+
+-- the variable P, whose thresholds give ties
+abbrev pub stepped : Link → ℕ
+stepped (Sum p q) = p
+stepped (Difference p q) = p
 
 -- for each value k of S, and each threshold i of P
-abbrev pub links : List Range → ℕ → Link → ℕ → ℕ → List Pairing
-links rs s l p q = family rs s (linked l p q) (low rs s) (high rs s + 1) (low rs p) (high rs p + 2)
+abbrev pub links : List Range → ℕ → Link → List Pairing
+links rs s l = family rs s (linked l) (low rs s) (high rs s + 1) (low rs (stepped l)) (high rs (stepped l) + 2)
 
 -- whether S is settled at one of its values, and all that this gives stands
-abbrev pub links_stand : (Bound → Bound → Bool) → List Range → ℕ → Link → ℕ → ℕ → Bool
-links_stand tied rs s l p q = spent_by tied rs s (linked l p q) (low rs s) (high rs s + 1) (low rs p) (high rs p + 2)
+abbrev pub links_stand : (Bound → Bound → Bool) → List Range → ℕ → Link → Bool
+links_stand tied rs s l = spent_by tied rs s (linked l) (low rs s) (high rs s + 1) (low rs (stepped l)) (high rs (stepped l) + 2)
 
 -- C is A + B, A is C - B, and B is C - A
 abbrev pub all_links : List Range → ℕ → ℕ → ℕ → List Pairing
-all_links rs a b c = links rs c Sum a b ++ (links rs a Difference b c ++ links rs b Difference a c)
+all_links rs a b c = links rs c (Sum a b) ++ (links rs a (Difference b c) ++ links rs b (Difference a c))
 
 abbrev pub any_stand : (Bound → Bound → Bool) → List Range → ℕ → ℕ → ℕ → Bool
-any_stand tied rs a b c = links_stand tied rs c Sum a b || (links_stand tied rs a Difference b c || links_stand tied rs b Difference a c)
+any_stand tied rs a b c = links_stand tied rs c (Sum a b) || (links_stand tied rs a (Difference b c) || links_stand tied rs b (Difference a c))
 
 abbrev pub plus : Meaning
 plus = record {

@@ -13,13 +13,13 @@ use Rattle.order.specs.Bounds.{InRange}
 use Rattle.order.specs.Ranges.{low, high}
 use Rattle.kinds.specs.declared.item.Item.{Item}
 use Rattle.kinds.specs.Items.{var, names, Pairing}
-use Rattle.kinds.specs.Meaning.{Lawful, Met, Kept, Follows, Respects, Own, OwnPairing}
+use Rattle.kinds.specs.Meaning.{Lawful, Met, Kept, Follows, Respects, Own, OwnTie, OwnPairing}
 use Rattle.kinds.proofs.FamilyFacts.{family_paired, family_spent, family_own, family_short, family_few, family_same}
 use Rattle.kinds.proofs.Ranging.{all_between_from, between_all, length_between}
 use Rattle.kinds.proofs.Rows.{range_small}
 use Rattle.linear.specs.declared.plus.Link.{Link}
 use Rattle.linear.specs.declared.plus.Link.TheVariants.{Sum, Difference}
-use Rattle.linear.specs.Plus.{plus, corner, corner_row, corners, linked, links, links_stand, all_links, any_stand}
+use Rattle.linear.specs.Plus.{plus, corner, corner_row, corners, stepped, linked, links, links_stand, all_links, any_stand}
 use Rattle.linear.specs.Owned.{owned, same_ends}
 
 -- the clauses at i and j, of the values x, y and z
@@ -32,10 +32,10 @@ down x y z i j h = grind (arith, nat_tests)
 by_both : (x y z : ℕ) → (nat_lt x x || (nat_lt y y || (nat_le (x + y) z || false))) ≡ true → (nat_le (x + 1) x || (nat_le (y + 1) y || (nat_lt z (x + y + 1) || false))) ≡ true → (x + y == z) ≡ true
 by_both x y z h g = grind (arith, nat_tests)
 
--- what a link says of the values x and y
-Says : Link → ℕ → ℕ → ℕ → Type 0
-Says Sum x y k = x + y ≡ k
-Says Difference x y k = k + x ≡ y
+-- what a link says of values
+Says : Link → (ℕ → ℕ) → ℕ → Type 0
+Says (Sum p q) v k = v p + v q ≡ k
+Says (Difference p q) v k = k + v p ≡ v q
 
 sum_ties : (x y k i : ℕ) → x + y ≡ k → nat_le i x ≡ nat_lt y (k + 1 - i)
 sum_ties x y k i e = grind (arith, nat_tests)
@@ -50,45 +50,52 @@ by_difference_ties : (x y k : ℕ) → nat_le x x ≡ nat_le (k + x) y → nat_l
 by_difference_ties x y k h g = grind (arith, nat_tests)
 
 -- values of which it is true keep its ties, and it is true of values that keep two of them
-kept : (l : Link) (v : ℕ → ℕ) (p q k i : ℕ) → Says l (v p) (v q) k → Kept v (linked l p q k i)
+kept : (l : Link) (v : ℕ → ℕ) (k i : ℕ) → Says l v k → Kept v (linked l k i)
 unfolding Says
-kept Sum v p q k i h = sum_ties (v p) (v q) k i h
-kept Difference v p q k i h = difference_ties (v p) (v q) k i h
+kept (Sum p q) v k i h = sum_ties (v p) (v q) k i h
+kept (Difference p q) v k i h = difference_ties (v p) (v q) k i h
 
-by_kept : (l : Link) (v : ℕ → ℕ) (p q k : ℕ) → Kept v (linked l p q k (v p)) → Kept v (linked l p q k (v p + 1)) → Says l (v p) (v q) k
+by_kept : (l : Link) (v : ℕ → ℕ) (k : ℕ) → Kept v (linked l k (v (stepped l))) → Kept v (linked l k (v (stepped l) + 1)) → Says l v k
 unfolding Says
-by_kept Sum v p q k h g = by_sum_ties (v p) (v q) k h g
-by_kept Difference v p q k h g = by_difference_ties (v p) (v q) k h g
+by_kept (Sum p q) v k h g = by_sum_ties (v p) (v q) k h g
+by_kept (Difference p q) v k h g = by_difference_ties (v p) (v q) k h g
 
-module _ (rs : List Range) (s : ℕ) (l : Link) (p q : ℕ) where
+-- the two variables of a link are a row's own
+abbrev Owned : List Item → Link → Type 0
+Owned items (Sum p q) = (names items p ≡ true) × (names items q ≡ true)
+Owned items (Difference p q) = (names items p ≡ true) × (names items q ≡ true)
+
+own_tie : (items : List Item) (l : Link) → Owned items l → (k i : ℕ) → OwnTie items (linked l k i)
+own_tie items (Sum p q) own k i = own
+own_tie items (Difference p q) own k i = own
+
+module _ (rs : List Range) (s : ℕ) (l : Link) where
+  abbrev p : ℕ
+  p = stepped l
+
   module _ (v : ℕ → ℕ) (within : InRange rs v) where
-    links_follow : Says l (v p) (v q) (v s) → AllByRecursion (Follows v) (links rs s l p q)
-    links_follow h =
-        family_paired rs s (linked l p q) (low rs s) (high rs s + 1) (low rs p) (high rs p + 2) v within (λ k i e. kept l v p q k i (subst (Says l (v p) (v q)) e h))
+    links_follow : Says l v (v s) → AllByRecursion (Follows v) (links rs s l)
+    links_follow h = family_paired rs s (linked l) (low rs s) (high rs s + 1) (low rs p) (high rs p + 2) v within (λ k i e. kept l v k i (subst (Says l v) e h))
 
-    stand_says : (tied : Bound → Bound → Bool) → Respects v tied → links_stand tied rs s l p q ≡ true → Says l (v p) (v q) (v s)
+    stand_says : (tied : Bound → Bound → Bool) → Respects v tied → links_stand tied rs s l ≡ true → Says l v (v s)
     stand_says tied respects h =
-        let f = family_spent rs s (linked l p q) (low rs s) (high rs s + 1) (low rs p) (high rs p + 2) v within tied respects h in
+        let f = family_spent rs s (linked l) (low rs s) (high rs s + 1) (low rs p) (high rs p + 2) v within tied respects h in
         let lo = within.above p in
         let hi = within.below p in
-        subst (Says l (v p) (v q)) (sym f.1) (by_kept l v p q f.0 (f.2 (v p) (omega arith) (omega arith)) (f.2 (v p + 1) (omega arith) (omega arith)))
+        subst (Says l v) (sym f.1) (by_kept l v f.0 (f.2 (v p) (omega arith) (omega arith)) (f.2 (v p + 1) (omega arith) (omega arith)))
 
-  links_own : (items : List Item) → names items s ≡ true → names items p ≡ true → names items q ≡ true → AllByRecursion (OwnPairing items) (links rs s l p q)
-  links_own items os op oq = family_own rs s (linked l p q) (low rs s) (high rs s + 1) (low rs p) (high rs p + 2) items os (own_tie l)
-    where
-      own_tie : (l : Link) (k i : ℕ) → (names items (linked l p q k i).left.variable ≡ true) × (names items (linked l p q k i).right.variable ≡ true)
-      own_tie Sum k i = (op, oq)
-      own_tie Difference k i = (op, oq)
+  links_own : (items : List Item) → names items s ≡ true → Owned items l → AllByRecursion (OwnPairing items) (links rs s l)
+  links_own items os own = family_own rs s (linked l) (low rs s) (high rs s + 1) (low rs p) (high rs p + 2) items os (own_tie items l own)
 
-  links_short : AllByRecursion (λ p. length p.premise ≤ 4) (links rs s l p q)
-  links_short = family_short rs s (linked l p q) (low rs s) (high rs s + 1) (low rs p) (high rs p + 2)
+  links_short : AllByRecursion (λ p. length p.premise ≤ 4) (links rs s l)
+  links_short = family_short rs s (linked l) (low rs s) (high rs s + 1) (low rs p) (high rs p + 2)
 
-  links_few : length (links rs s l p q) ≤ 65792
-  links_few = family_few rs s (linked l p q) (low rs s) (high rs s + 1) (low rs p) (high rs p + 2) (omega (arith, range_small rs s)) (omega (arith, range_small rs p))
+  links_few : length (links rs s l) ≤ 65792
+  links_few = family_few rs s (linked l) (low rs s) (high rs s + 1) (low rs p) (high rs p + 2) (omega (arith, range_small rs s)) (omega (arith, range_small rs p))
 
-  links_same : (rs' : List Range) → (low rs s ≡ low rs' s) × (high rs s ≡ high rs' s) → (low rs p ≡ low rs' p) × (high rs p ≡ high rs' p) → links rs' s l p q ≡ links rs s l p q
+  links_same : (rs' : List Range) → (low rs s ≡ low rs' s) × (high rs s ≡ high rs' s) → (low rs p ≡ low rs' p) × (high rs p ≡ high rs' p) → links rs' s l ≡ links rs s l
   links_same rs' es ep =
-      sym (family_same rs rs' s (linked l p q) (linked l p q) es.0 es.1 (λ k i. refl) (low rs s) (high rs s + 1) (low rs p) (high rs p + 2) (low rs' s) (high rs' s + 1) (low rs' p) (high rs' p + 2) es.0 (λ i. es.1 i + 1) ep.0 (λ i. ep.1 i + 2))
+      sym (family_same rs rs' s (linked l) (linked l) es.0 es.1 (λ k i. refl) (low rs s) (high rs s + 1) (low rs p) (high rs p + 2) (low rs' s) (high rs' s + 1) (low rs' p) (high rs' p + 2) es.0 (λ i. es.1 i + 1) ep.0 (λ i. ep.1 i + 2))
 
 module _ (rs : List Range) (a b c : ℕ) where
   all_corners : (P : List Bound → Type 0) → ((i j : ℕ) → AllByRecursion P (corner a b c i j)) → AllByRecursion P (corners rs a b c)
@@ -97,18 +104,18 @@ module _ (rs : List Range) (a b c : ℕ) where
   few : length (corners rs a b c) ≤ 131072
   few = length_between (corner_row rs a b c) 512 (λ i. length_between (corner a b c i) 2 (λ j. lit≤ tt) (low rs b) (high rs b + 1) 256 (omega (arith, range_small rs b))) (low rs a) (high rs a + 1) 256 (omega (arith, range_small rs a))
 
-  all_three : (P : Pairing → Type 0) → AllByRecursion P (links rs c Sum a b) → AllByRecursion P (links rs a Difference b c) → AllByRecursion P (links rs b Difference a c) → AllByRecursion P (all_links rs a b c)
-  all_three P x y z = All-append P (links rs c Sum a b) (links rs a Difference b c ++ links rs b Difference a c) x (All-append P (links rs a Difference b c) (links rs b Difference a c) y z)
+  all_three : (P : Pairing → Type 0) → AllByRecursion P (links rs c (Sum a b)) → AllByRecursion P (links rs a (Difference b c)) → AllByRecursion P (links rs b (Difference a c)) → AllByRecursion P (all_links rs a b c)
+  all_three P x y z = All-append P (links rs c (Sum a b)) (links rs a (Difference b c) ++ links rs b (Difference a c)) x (All-append P (links rs a (Difference b c)) (links rs b (Difference a c)) y z)
 
   few_ties : length (all_links rs a b c) ≤ 262144
   few_ties =
       omega (
         arith,
-        length-append (links rs c Sum a b) (links rs a Difference b c ++ links rs b Difference a c),
-        length-append (links rs a Difference b c) (links rs b Difference a c),
-        links_few rs c Sum a b,
-        links_few rs a Difference b c,
-        links_few rs b Difference a c,
+        length-append (links rs c (Sum a b)) (links rs a (Difference b c) ++ links rs b (Difference a c)),
+        length-append (links rs a (Difference b c)) (links rs b (Difference a c)),
+        links_few rs c (Sum a b),
+        links_few rs a (Difference b c),
+        links_few rs b (Difference a c),
       )
 
   module _ (v : ℕ → ℕ) (within : InRange rs v) where
@@ -122,22 +129,22 @@ module _ (rs : List Range) (a b c : ℕ) where
     unfolding Says
     paired_from m =
         let e : v a + v b ≡ v c = eqb-true (v a + v b) (v c) m in
-        all_three (Follows v) (links_follow rs c Sum a b v within e) (links_follow rs a Difference b c v within e) (links_follow rs b Difference a c v within (omega arith))
+        all_three (Follows v) (links_follow rs c (Sum a b) v within e) (links_follow rs a (Difference b c) v within e) (links_follow rs b (Difference a c) v within (omega arith))
 
-    parts : (tied : Bound → Bound → Bool) → Respects v tied → (links_stand tied rs a Difference b c || links_stand tied rs b Difference a c) ≡ true → v a + v b ≡ v c
+    parts : (tied : Bound → Bound → Bool) → Respects v tied → (links_stand tied rs a (Difference b c) || links_stand tied rs b (Difference a c)) ≡ true → v a + v b ≡ v c
     unfolding Says
     parts tied respects h =
-        elim (or_cases (links_stand tied rs a Difference b c) (links_stand tied rs b Difference a c) h) [
-          | inl x ↦ stand_says rs a Difference b c v within tied respects x
-          | inr y ↦ omega (arith, stand_says rs b Difference a c v within tied respects y)
+        elim (or_cases (links_stand tied rs a (Difference b c)) (links_stand tied rs b (Difference a c)) h) [
+          | inl x ↦ stand_says rs a (Difference b c) v within tied respects x
+          | inr y ↦ omega (arith, stand_says rs b (Difference a c) v within tied respects y)
         ]
 
     spent_from : (tied : Bound → Bound → Bool) → Respects v tied → any_stand tied rs a b c ≡ true → (v a + v b == v c) ≡ true
     unfolding Says
     spent_from tied respects h =
         let met : v a + v b ≡ v c =
-        elim (or_cases (links_stand tied rs c Sum a b) (links_stand tied rs a Difference b c || links_stand tied rs b Difference a c) h) [
-          | inl x ↦ stand_says rs c Sum a b v within tied respects x
+        elim (or_cases (links_stand tied rs c (Sum a b)) (links_stand tied rs a (Difference b c) || links_stand tied rs b (Difference a c)) h) [
+          | inl x ↦ stand_says rs c (Sum a b) v within tied respects x
           | inr y ↦ parts tied respects y
         ] in
         eq-eqb (v a + v b) (v c) met
@@ -161,15 +168,15 @@ plus_lawful = record {
       let ob = owned 3 items apt.0 1 (lit< tt) in
       let oc = owned 3 items apt.0 2 (lit< tt) in
       all_three rs (var items 0) (var items 1) (var items 2) (OwnPairing items)
-      (links_own rs (var items 2) Sum (var items 0) (var items 1) items oc oa ob)
-      (links_own rs (var items 0) Difference (var items 1) (var items 2) items oa ob oc)
-      (links_own rs (var items 1) Difference (var items 0) (var items 2) items ob oa oc);
+      (links_own rs (var items 2) (Sum (var items 0) (var items 1)) items oc (oa, ob))
+      (links_own rs (var items 0) (Difference (var items 1) (var items 2)) items oa (ob, oc))
+      (links_own rs (var items 1) (Difference (var items 0) (var items 2)) items ob (oa, oc));
   same_clauses = λ items rs rs' apt agree. let e = same_ends 3 items apt.0 rs rs' agree in corners_same rs (var items 0) (var items 1) (var items 2) rs' (e 0 (lit< tt)) (e 1 (lit< tt));
   same_pairings = λ items rs rs' apt agree.
       let e = same_ends 3 items apt.0 rs rs' agree in
-      λ i. links_same rs (var items 2) Sum (var items 0) (var items 1) rs' (e 2 (lit< tt)) (e 0 (lit< tt)) i
-      ++ (links_same rs (var items 0) Difference (var items 1) (var items 2) rs' (e 0 (lit< tt)) (e 1 (lit< tt)) i
-      ++ links_same rs (var items 1) Difference (var items 0) (var items 2) rs' (e 1 (lit< tt)) (e 0 (lit< tt)) i);
+      λ i. links_same rs (var items 2) (Sum (var items 0) (var items 1)) rs' (e 2 (lit< tt)) (e 0 (lit< tt)) i
+      ++ (links_same rs (var items 0) (Difference (var items 1) (var items 2)) rs' (e 0 (lit< tt)) (e 1 (lit< tt)) i
+      ++ links_same rs (var items 1) (Difference (var items 0) (var items 2)) rs' (e 1 (lit< tt)) (e 0 (lit< tt)) i);
   same_fits = λ items rs rs' apt agree. refl;
   same_meets = λ items u v formed e.
       let own = owned 3 items formed in
@@ -178,5 +185,5 @@ plus_lawful = record {
   short_clauses = λ items rs apt. all_corners rs (var items 0) (var items 1) (var items 2) (λ c. length c ≤ 3) (λ i j. (lit≤ tt, (lit≤ tt, tt)));
   few_clauses = λ items rs apt. few rs (var items 0) (var items 1) (var items 2);
   few_pairings = λ items rs apt. few_ties rs (var items 0) (var items 1) (var items 2);
-  short_premises = λ items rs apt. all_three rs (var items 0) (var items 1) (var items 2) (λ p. length p.premise ≤ 4) (links_short rs (var items 2) Sum (var items 0) (var items 1)) (links_short rs (var items 0) Difference (var items 1) (var items 2)) (links_short rs (var items 1) Difference (var items 0) (var items 2));
+  short_premises = λ items rs apt. all_three rs (var items 0) (var items 1) (var items 2) (λ p. length p.premise ≤ 4) (links_short rs (var items 2) (Sum (var items 0) (var items 1))) (links_short rs (var items 0) (Difference (var items 1) (var items 2))) (links_short rs (var items 1) (Difference (var items 0) (var items 2)));
 }

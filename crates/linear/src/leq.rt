@@ -3,11 +3,11 @@ ghost use Rattle.std.specs.Prelude.{refl};
 ghost use Rattle.linear.specs.Leq.{leq};
 ghost use Rattle.linear.specs.LeqLaws.{leq_lawful};
 
-use crate::clause::rise;
 use kinds::item::Item;
 use kinds::kind::Kind;
 use kinds::listen::{Listener, Standing};
 use kinds::reading;
+use order::bound::Bound;
 use order::range::Range;
 use order::visit::Visitor;
 
@@ -38,17 +38,17 @@ impl Kind for Leq {
     }
 
     fn met(items: &[Item], values: &[u8]) -> bool {
-        let a = reading::value_of(values, reading::variable_at(items, 0));
-        let b = reading::value_of(values, reading::variable_at(items, 1));
+        let [a, b] = reading::variables::<2>(items).map(|x| reading::value_of(values, x));
         a <= b
     }
 
+    #[tactic(auto, using(kinds::proofs::Loops::next))]
     fn visit_clauses<V: Visitor>(items: &[Item], ranges: &[Range], visitor: &mut V) {
-        let a = reading::variable_at(items, 0);
-        let b = reading::variable_at(items, 1);
+        let [a, b] = reading::variables::<2>(items);
         let of_a = reading::range_of(ranges, a);
-        for t in of_a.low() as u16..of_a.high() as u16 + 1 {
-            visitor.visit(&rise(a, b, t));
+        for t in of_a.low()..=of_a.high() {
+            let t = u16::from(t);
+            visitor.visit(&Bound::at_least(a, t).implies(Bound::at_least(b, t)));
         }
     }
 

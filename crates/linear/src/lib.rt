@@ -2,7 +2,6 @@
 #![tactic(auto)]
 
 pub mod base;
-mod clause;
 pub mod leq;
 pub mod plus;
 pub mod same;

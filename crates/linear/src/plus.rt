@@ -1,10 +1,9 @@
 //! The kind of row that adds two variables.
-ghost use Rattle.std.specs.Prelude.{◌≡◌, ◌+◌, ◌≤◌, ◌&&◌, [], ◌∷◌, refl};
-ghost use Rattle.order.specs.Bounds.{reaches, misses};
+ghost use Rattle.std.specs.Prelude.{◌≡◌, ◌+◌, ◌≤◌, refl};
+ghost use Rattle.order.specs.Ranges.{low, high};
 ghost use Rattle.order.specs.Visits.{After};
-ghost use Rattle.kinds.specs.Families.{all_stand};
-ghost use Rattle.kinds.specs.Items.{tie};
-ghost use Rattle.linear.specs.Plus.{plus, linked, links, links_stand};
+ghost use Rattle.kinds.specs.Families.{stands, is_settled, all_stand};
+ghost use Rattle.linear.specs.Plus.{plus, corner, stepped, linked, links, links_stand};
 ghost use Rattle.linear.specs.PlusLaws.{plus_lawful};
 
 use kinds::item::{Item, Tie};
@@ -15,119 +14,105 @@ use order::bound::Bound;
 use order::range::Range;
 use order::visit::Visitor;
 
-// Where A reaches i and B reaches j, C reaches i + j.
-fn from_below(a: u16, b: u16, c: u16, i: u16, j: u16) -> [Bound; 3]
-    requires { (i ≤ 255) × (j ≤ 255) }
-    ensures { result ≡ misses a i ∷ misses b j ∷ reaches c (i + j) ∷ [] }
+// Shows the visitor what A reaching i and B reaching j say of C, and what A at most i and B at most j say of it.
+fn visit_corner<V: Visitor>(a: u16, b: u16, c: u16, i: u8, j: u8, visitor: &mut V)
+    ensures { After V.Visitor.step visitor.old (corner a b c i j) visitor.new }
 {
-    [
+    let [i, j] = [i, j].map(u16::from);
+    visitor.visit(&[
         Bound::below(a, i),
         Bound::below(b, j),
         Bound::at_least(c, i + j),
-    ]
-}
-
-// Where A is at most i and B at most j, C is at most i + j.
-fn from_above(a: u16, b: u16, c: u16, i: u16, j: u16) -> [Bound; 3]
-    requires { (i ≤ 255) × (j ≤ 255) }
-    ensures { result ≡ reaches a (i + 1) ∷ reaches b (j + 1) ∷ misses c (i + j + 1) ∷ [] }
-{
-    [
+    ]);
+    visitor.visit(&[
         Bound::at_least(a, i + 1),
         Bound::at_least(b, j + 1),
         Bound::below(c, i + j + 1),
-    ]
+    ]);
 }
 
 // How the value k of one variable ties two others, P and Q.
+// Kept as it is: a closure in place of the enum would be written twice for each link, to tell it and to test it.
 #[derive(Clone, Copy)]
 enum Link {
     // P + Q is k.
-    Sum,
+    Sum(u16, u16),
     // Q - P is k.
-    Difference,
+    Difference(u16, u16),
 }
 
 impl Link {
-    // The tie of P and Q at the threshold i of P. A threshold of Q below 0 is written as 0.
-    fn tie(self, p: u16, q: u16, k: u16, i: u16) -> Tie
-        requires { (k ≤ 255) × (i ≤ 256) }
-        ensures { result ≡ linked self p q k i }
+    // The variable P, at whose thresholds there are ties.
+    fn stepped(self) -> u16
+        ensures { result ≡ stepped self }
     {
-        let left = Bound::at_least(p, i);
-        match self {
-            Link::Sum => Tie::between(left, Bound::below(q, (k + 1).saturating_sub(i))),
-            Link::Difference => Tie::between(left, Bound::at_least(q, k + i)),
+        let (Link::Sum(p, _) | Link::Difference(p, _)) = self;
+        p
+    }
+
+    // The tie of P and Q at the threshold i of P. A threshold of Q below 0 is written as 0.
+    fn tie(self, k: u8, i: u16) -> Tie
+        requires { i ≤ 256 }
+        ensures { result ≡ linked self k i }
+    {
+        let k = u16::from(k);
+        let right = match self {
+            Link::Sum(_, q) => Bound::below(q, (k + 1).saturating_sub(i)),
+            Link::Difference(_, q) => Bound::at_least(q, k + i),
+        };
+        Tie::between(Bound::at_least(self.stepped(), i), right)
+    }
+
+    // Tells the ties of P and Q that each value of S gives.
+    #[tactic(auto, using(kinds::proofs::Loops::next))]
+    fn tell<L: Listener>(self, ranges: &[Range], s: u16, listener: &mut L)
+        ensures { After L.Listener.hears listener.old (links ranges.now s self) listener.new }
+    {
+        let of_s = reading::range_of(ranges, s);
+        let of_p = reading::range_of(ranges, self.stepped());
+        for k in of_s.low()..=of_s.high() {
+            let premise = Tie::settled(ranges, s, u16::from(k));
+            for i in u16::from(of_p.low())..u16::from(of_p.high()) + 2 {
+                listener.hear(&premise, self.tie(k, i));
+            }
         }
+    }
+
+    // Whether all ties of P and Q stand that the value k gives.
+    fn all_stand<T: Standing>(self, ranges: &[Range], k: u8, ties: &T) -> bool
+        ensures { result ≡ all_stand (T.Standing.stands ties.now) (linked self k) (low ranges.now (stepped self)) (high ranges.now (stepped self) + 2) }
+    {
+        let of_p = reading::range_of(ranges, self.stepped());
+        (u16::from(of_p.low())..u16::from(of_p.high()) + 2).all(
+            |i|
+                requires { i ≤ 256 }
+            { stands(ties, self.tie(k, i)) },
+        )
+    }
+
+    // Whether S is settled at one of its values, and all ties of P and Q stand that this gives.
+    fn stands<T: Standing>(self, ranges: &[Range], s: u16, ties: &T) -> bool
+        ensures { result ≡ links_stand (T.Standing.stands ties.now) ranges.now s self }
+    {
+        let of_s = reading::range_of(ranges, s);
+        (of_s.low()..=of_s.high()).any(|k| is_settled(ranges, s, k, ties)
+            && self.all_stand(ranges, k, ties))
     }
 }
 
-// The ties that say that a variable with the given range is k.
-fn settled_at(variable: u16, range: Range, k: u16) -> [Tie; 2]
-    requires { k ≤ 255 }
-    ensures { result ≡ tie (reaches variable k) (reaches variable range.low) ∷ tie (reaches variable (k + 1)) (reaches variable (range.high + 1)) ∷ [] }
+// Whether a tie stands.
+fn stands<T: Standing>(ties: &T, tie: Tie) -> bool
+    ensures { result ≡ stands (T.Standing.stands ties.now) tie }
 {
-    [
-        Tie::between(
-            Bound::at_least(variable, k),
-            Bound::at_least(variable, range.low() as u16),
-        ),
-        Tie::between(
-            Bound::at_least(variable, k + 1),
-            Bound::at_least(variable, range.high() as u16 + 1),
-        ),
-    ]
+    ties.tied(tie.left, tie.right)
 }
 
-// Tells the ties of P and Q that each value of S gives.
-fn tell_links<L: Listener>(ranges: &[Range], s: u16, link: Link, p: u16, q: u16, listener: &mut L)
-    ensures { After L.Listener.hears listener.old (links ranges.now s link p q) listener.new }
+// Whether S is settled at k.
+fn is_settled<T: Standing>(ranges: &[Range], s: u16, k: u8, ties: &T) -> bool
+    ensures { result ≡ is_settled (T.Standing.stands ties.now) ranges.now s k }
 {
-    let values = reading::range_of(ranges, s);
-    let steps = reading::range_of(ranges, p);
-    for k in values.low() as u16..values.high() as u16 + 1 {
-        let premise = settled_at(s, values, k);
-        for i in steps.low() as u16..steps.high() as u16 + 2 {
-            listener.hear(&premise, link.tie(p, q, k, i));
-        }
-    }
-}
-
-// Whether a variable with the given range is settled at k.
-fn is_settled<T: Standing>(ties: &T, variable: u16, range: Range, k: u16) -> bool
-    requires { k ≤ 255 }
-    ensures { result ≡ (T.Standing.stands ties.now (reaches variable k) (reaches variable range.low) && T.Standing.stands ties.now (reaches variable (k + 1)) (reaches variable (range.high + 1))) }
-{
-    let [reached, stopped] = settled_at(variable, range, k);
-    ties.tied(reached.left, reached.right) && ties.tied(stopped.left, stopped.right)
-}
-
-// Whether all ties of P and Q stand that the value k gives; `range` is that of P.
-fn all_stand<T: Standing>(ties: &T, range: Range, link: Link, p: u16, q: u16, k: u16) -> bool
-    requires { k ≤ 255 }
-    ensures { result ≡ all_stand (T.Standing.stands ties.now) (linked link p q k) range.low (range.high + 2) }
-{
-    for i in range.low() as u16..range.high() as u16 + 2 {
-        let tie = link.tie(p, q, k, i);
-        if !ties.tied(tie.left, tie.right) {
-            return false;
-        }
-    }
-    true
-}
-
-// Whether S is settled at one of its values, and all ties of P and Q stand that this gives.
-fn links_stand<T: Standing>(ties: &T, ranges: &[Range], s: u16, link: Link, p: u16, q: u16) -> bool
-    ensures { result ≡ links_stand (T.Standing.stands ties.now) ranges.now s link p q }
-{
-    let of_s = reading::range_of(ranges, s);
-    let of_p = reading::range_of(ranges, p);
-    for k in of_s.low() as u16..of_s.high() as u16 + 1 {
-        if is_settled(ties, s, of_s, k) && all_stand(ties, of_p, link, p, q, k) {
-            return true;
-        }
-    }
-    false
+    let [reached, stopped] = Tie::settled(ranges, s, u16::from(k));
+    stands(ties, reached) && stands(ties, stopped)
 }
 
 /// A + B is C.
@@ -157,41 +142,34 @@ impl Kind for Plus {
     }
 
     fn met(items: &[Item], values: &[u8]) -> bool {
-        let a = reading::value_of(values, reading::variable_at(items, 0));
-        let b = reading::value_of(values, reading::variable_at(items, 1));
-        let c = reading::value_of(values, reading::variable_at(items, 2));
-        a as u16 + b as u16 == c as u16
+        let [a, b, c] = reading::variables::<3>(items).map(|x| reading::value_of(values, x));
+        u16::from(a) + u16::from(b) == u16::from(c)
     }
 
+    #[tactic(auto, using(kinds::proofs::Loops::next))]
     fn visit_clauses<V: Visitor>(items: &[Item], ranges: &[Range], visitor: &mut V) {
-        let a = reading::variable_at(items, 0);
-        let b = reading::variable_at(items, 1);
-        let c = reading::variable_at(items, 2);
+        let [a, b, c] = reading::variables::<3>(items);
         let of_a = reading::range_of(ranges, a);
         let of_b = reading::range_of(ranges, b);
-        for i in of_a.low() as u16..of_a.high() as u16 + 1 {
-            for j in of_b.low() as u16..of_b.high() as u16 + 1 {
-                visitor.visit(&from_below(a, b, c, i, j));
-                visitor.visit(&from_above(a, b, c, i, j));
+        for i in of_a.low()..=of_a.high() {
+            for j in of_b.low()..=of_b.high() {
+                visit_corner(a, b, c, i, j, visitor);
             }
         }
     }
 
+    #[tactic(auto, using(order::proofs::Visiting::after_join))]
     fn tell_pairings<L: Listener>(items: &[Item], ranges: &[Range], listener: &mut L) {
-        let a = reading::variable_at(items, 0);
-        let b = reading::variable_at(items, 1);
-        let c = reading::variable_at(items, 2);
-        tell_links(ranges, c, Link::Sum, a, b, listener);
-        tell_links(ranges, a, Link::Difference, b, c, listener);
-        tell_links(ranges, b, Link::Difference, a, c, listener);
+        let [a, b, c] = reading::variables::<3>(items);
+        Link::Sum(a, b).tell(ranges, c, listener);
+        Link::Difference(b, c).tell(ranges, a, listener);
+        Link::Difference(a, c).tell(ranges, b, listener);
     }
 
     fn spent<T: Standing>(items: &[Item], ranges: &[Range], ties: &T) -> bool {
-        let a = reading::variable_at(items, 0);
-        let b = reading::variable_at(items, 1);
-        let c = reading::variable_at(items, 2);
-        links_stand(ties, ranges, c, Link::Sum, a, b)
-            || links_stand(ties, ranges, a, Link::Difference, b, c)
-            || links_stand(ties, ranges, b, Link::Difference, a, c)
+        let [a, b, c] = reading::variables::<3>(items);
+        Link::Sum(a, b).stands(ranges, c, ties)
+            || Link::Difference(b, c).stands(ranges, a, ties)
+            || Link::Difference(a, c).stands(ranges, b, ties)
     }
 }

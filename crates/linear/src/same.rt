@@ -1,11 +1,8 @@
 //! The kind of row that equates two variables.
 ghost use Rattle.std.specs.Prelude.{◌≡◌, refl};
-ghost use Rattle.order.specs.Bounds.{reaches};
-ghost use Rattle.kinds.specs.Items.{tie};
 ghost use Rattle.linear.specs.Same.{same, start, end};
 ghost use Rattle.linear.specs.SameLaws.{same_lawful};
 
-use crate::clause::{fall, rise};
 use kinds::item::{Item, Tie};
 use kinds::kind::Kind;
 use kinds::listen::{Listener, Standing};
@@ -13,24 +10,18 @@ use kinds::reading;
 use order::bound::Bound;
 use order::range::Range;
 use order::visit::Visitor;
+use std::ops;
 
 // The thresholds of A and B: above the least value of the two, and below what follows the greatest.
-fn thresholds(ranges: &[Range], a: u16, b: u16) -> (u16, u16)
-    ensures first { result.0 ≡ start ranges.now a b }
-    ensures past { result.1 ≡ end ranges.now a b }
+fn thresholds(ranges: &[Range], a: u16, b: u16) -> ops::Range<u16>
+    ensures first { result.start ≡ start ranges.now a b }
+    ensures past { result.end ≡ end ranges.now a b }
 {
     let of_a = reading::range_of(ranges, a);
     let of_b = reading::range_of(ranges, b);
     let least = of_a.low().min(of_b.low());
     let greatest = of_a.high().max(of_b.high());
-    (least as u16 + 1, greatest as u16 + 1)
-}
-
-// A reaches t as B does.
-fn matched(a: u16, b: u16, t: u16) -> Tie
-    ensures { result ≡ tie (reaches a t) (reaches b t) }
-{
-    Tie::between(Bound::at_least(a, t), Bound::at_least(b, t))
+    u16::from(least) + 1..u16::from(greatest) + 1
 }
 
 /// A is B.
@@ -60,27 +51,27 @@ impl Kind for Same {
     }
 
     fn met(items: &[Item], values: &[u8]) -> bool {
-        let a = reading::value_of(values, reading::variable_at(items, 0));
-        let b = reading::value_of(values, reading::variable_at(items, 1));
+        let [a, b] = reading::variables::<2>(items).map(|x| reading::value_of(values, x));
         a == b
     }
 
+    #[tactic(auto, using(kinds::proofs::Loops::next))]
     fn visit_clauses<V: Visitor>(items: &[Item], ranges: &[Range], visitor: &mut V) {
-        let a = reading::variable_at(items, 0);
-        let b = reading::variable_at(items, 1);
-        let (first, past) = thresholds(ranges, a, b);
-        for t in first..past {
-            visitor.visit(&rise(a, b, t));
-            visitor.visit(&fall(a, b, t));
+        let [a, b] = reading::variables::<2>(items);
+        for t in thresholds(ranges, a, b) {
+            visitor.visit(&Bound::at_least(a, t).implies(Bound::at_least(b, t)));
+            visitor.visit(&Bound::below(a, t).implies(Bound::below(b, t)));
         }
     }
 
+    #[tactic(auto, using(kinds::proofs::Loops::next))]
     fn tell_pairings<L: Listener>(items: &[Item], ranges: &[Range], listener: &mut L) {
-        let a = reading::variable_at(items, 0);
-        let b = reading::variable_at(items, 1);
-        let (first, past) = thresholds(ranges, a, b);
-        for t in first..past {
-            listener.hear(&[], matched(a, b, t));
+        let [a, b] = reading::variables::<2>(items);
+        for t in thresholds(ranges, a, b) {
+            listener.hear(
+                &[],
+                Tie::between(Bound::at_least(a, t), Bound::at_least(b, t)),
+            );
         }
     }
 

@@ -29,10 +29,6 @@ apart rs a b = between (not_both a b) (shared_from rs a b) (shared_past rs a b)
 abbrev pub skips : ℕ → ℕ → Tie
 skips x v = tie (reaches x v) (reaches x (v + 1))
 
--- S is v, where its range is from l to h
-abbrev pub settled_in : ℕ → ℕ → ℕ → ℕ → List Tie
-settled_in l h s v = tie (reaches s v) (reaches s l) ∷ tie (reaches s (v + 1)) (reaches s (h + 1)) ∷ []
-
 -- where A is v, B is not
 abbrev pub excludes : List Range → ℕ → ℕ → ℕ → Pairing
 excludes rs a b v = pairing (settled rs a v) (skips b v)

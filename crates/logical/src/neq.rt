@@ -2,7 +2,7 @@
 ghost use Rattle.std.specs.Prelude.{◌≡◌, ◌+◌, ◌^◌, ◌<◌, ◌≤◌, [], ◌∷◌, refl};
 ghost use Rattle.order.specs.Visits.{After};
 ghost use Rattle.kinds.specs.Items.{var};
-ghost use Rattle.logical.specs.Neq.{neq, shared_from, shared_past, not_both, apart, skips, settled_in, excludes_each, alike, mirrored, apart_pairings};
+ghost use Rattle.logical.specs.Neq.{neq, shared_from, shared_past, not_both, apart, skips, excludes_each, alike, mirrored, apart_pairings};
 ghost use Rattle.logical.specs.NeqLaws.{neq_lawful};
 
 use kinds::item::{Item, Tie};
@@ -77,9 +77,8 @@ impl Pair {
     pub(crate) fn tell_excluded<L: Listener>(self, ranges: &[Range], listener: &mut L)
         ensures { After L.Listener.hears listener.old (excludes_each ranges.now self.a self.b) listener.new }
     {
-        let of_a = reading::range_of(ranges, self.a);
         for v in self.shared(ranges) {
-            listener.hear(&settled(of_a, self.a, v), skips(self.b, v));
+            listener.hear(&Tie::settled(ranges, self.a, v), skips(self.b, v));
         }
     }
 
@@ -108,26 +107,12 @@ impl Pair {
     fn tell_apart<L: Listener>(self, ranges: &[Range], listener: &mut L)
         ensures { After L.Listener.hears listener.old (apart_pairings ranges.now self.a self.b) listener.new }
     {
-        let of_a = reading::range_of(ranges, self.a);
-        let of_b = reading::range_of(ranges, self.b);
         for v in self.shared(ranges) {
-            listener.hear(&settled(of_a, self.a, v), skips(self.b, v));
-            listener.hear(&settled(of_b, self.b, v), skips(self.a, v));
+            listener.hear(&Tie::settled(ranges, self.a, v), skips(self.b, v));
+            listener.hear(&Tie::settled(ranges, self.b, v), skips(self.a, v));
             self.tell_matches(v, listener);
         }
     }
-}
-
-// S is v.
-fn settled(of_s: Range, s: u16, v: u16) -> [Tie; 2]
-    requires { v < 256 }
-    ensures { result ≡ settled_in of_s.low of_s.high s v }
-{
-    let from = Bound::at_least(s, v);
-    let lowest = Bound::at_least(s, of_s.low() as u16);
-    let over = Bound::at_least(s, v + 1);
-    let past = Bound::at_least(s, of_s.high() as u16 + 1);
-    [Tie::between(from, lowest), Tie::between(over, past)]
 }
 
 // X is not v.

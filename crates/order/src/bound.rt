@@ -1,5 +1,5 @@
 //! Bounds on a variable.
-ghost use Rattle.std.specs.Prelude.{◌≡◌};
+ghost use Rattle.std.specs.Prelude.{◌≡◌, [], ◌∷◌};
 ghost use Rattle.order.specs.Bounds.{reaches, misses, turned};
 
 /// X(at), which says that the variable is at least `at`, or its opposite. A threshold below 0 says the
@@ -43,5 +43,12 @@ impl Bound {
             opposed: !self.opposed,
             ..self
         }
+    }
+
+    /// The clause that says: where this bound holds, so does the other.
+    pub fn implies(self, other: Bound) -> [Bound; 2]
+        ensures { result ≡ turned self ∷ other ∷ [] }
+    {
+        [self.opposite(), other]
     }
 }

@@ -1,7 +1,7 @@
-use Rattle.order.specs.Between.{between}
-use Rattle.order.specs.Visits.{After}
-use Rattle.linear.specs.Same.{match}
+use Rattle.kinds.specs.Items.{var}
+use Rattle.kinds.proofs.Loops.{Leads}
+use Rattle.linear.specs.Same.{match, matches}
 use Rattle.linear.proofs.same.SameKind.tell_pairings.Given as goal
 
 abbrev pub invariant-loop-t : goal.invariant-loop-t
-invariant-loop-t g l = After g.L.Listener.hears l.initial.listener (between (match l.a l.b) l.initial.t l.t) l.listener
+invariant-loop-t g l = Leads g.L.Listener.hears (match l.a l.b) l.t-iterator.start l.t-iterator.end l.listener (matches l.ranges (var l.items 0) (var l.items 1)) l.initial.listener

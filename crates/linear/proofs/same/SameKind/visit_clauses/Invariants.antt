@@ -1,7 +1,7 @@
-use Rattle.order.specs.Between.{between}
-use Rattle.order.specs.Visits.{After}
-use Rattle.linear.specs.Same.{level}
+use Rattle.kinds.specs.Items.{var}
+use Rattle.kinds.proofs.Loops.{Leads}
+use Rattle.linear.specs.Same.{level, levels}
 use Rattle.linear.proofs.same.SameKind.visit_clauses.Given as goal
 
 abbrev pub invariant-loop-t : goal.invariant-loop-t
-invariant-loop-t g l = After g.V.Visitor.step l.initial.visitor (between (level l.a l.b) l.initial.t l.t) l.visitor
+invariant-loop-t g l = Leads g.V.Visitor.step (level l.a l.b) l.t-iterator.start l.t-iterator.end l.visitor (levels l.ranges (var l.items 0) (var l.items 1)) l.initial.visitor
