@@ -1,5 +1,5 @@
 -- What an answer claims, after what its lines so far have shown. Assumes nothing.
-use Rattle.std.proofs.Common.{◌≡◌, ℕ, Bool, true, false, cond, ◌&&◌, List, [], ◌∷◌, Some, None, Ok, Err, Option, Result, refl, ap, ◌∙◌, arith}
+use Rattle.std.proofs.Common.{◌≡◌, ℕ, Bool, true, false, cond, ◌&&◌, List, [], ◌∷◌, Some, None, Ok, Err, Option, Result, refl, ap, ◌∙◌}
 use Rattle.answers.specs.declared.claim.ClaimFault.{ClaimFault}
 use Rattle.answers.specs.declared.claim.ClaimFault.TheVariants.{BadLine}
 use Rattle.answers.specs.declared.claim.Claimed.{Claimed}
@@ -52,19 +52,12 @@ line_taken s (Some x) (Some v) cs vs =
 
 -- the lines left are l and ls
 module _ (o : Result Status ClaimFault) (s : Seen) (all ls : List (List ℕ)) (l : List ℕ) (inv : o ≡ claim_after s all) (first : all ≡ l ∷ ls) where
-  now_line : (r : Bool) → is_right l ≡ r → o ≡ cond (r && all_right ls) (claimed (claims_after s.claimed (claims (l ∷ ls))) (values_after s (value_lines (l ∷ ls)))) (Err BadLine)
-  now_line r e =
-      inv ∙ ap (claim_after s) first
-      ∙ ap (λ b. cond (b && all_right ls) (claimed (claims_after s.claimed (claims (l ∷ ls))) (values_after s (value_lines (l ∷ ls)))) (Err BadLine)) e
-
   -- a line that is right
   pub goes_on : (m : Seen) → with_line s l ≡ Ok m → o ≡ claim_after m ls
-  goes_on m e = go (is_right l) refl e
+  goes_on m e = inv ∙ ap (claim_after s) first ∙ go (is_right l) e
     where
-      go : (r : Bool) → is_right l ≡ r → cond r (Ok (with_values (with_claim s (claim_of l)) (values_in l))) (Err BadLine) ≡ Ok m → o ≡ claim_after m ls
-      go false is e = absurd (grind arith)
-      go true is e =
-          let same : with_values (with_claim s (claim_of l)) (values_in l) ≡ m = cc in
-          now_line true is
-          ∙ ap (λ x. cond (all_right ls) x (Err BadLine)) (line_taken s (claim_of l) (values_in l) (claims ls) (value_lines ls))
-          ∙ ap (λ t. claim_after t ls) same
+      go : (r : Bool) → cond r (Ok (with_values (with_claim s (claim_of l)) (values_in l))) (Err BadLine) ≡ Ok m → cond (r && all_right ls) (claimed (claims_after s.claimed (claims (l ∷ ls))) (values_after s (value_lines (l ∷ ls)))) (Err BadLine) ≡ claim_after m ls
+      go false e = absurd (cc e)
+      go true e =
+          let same : with_values (with_claim s (claim_of l)) (values_in l) ≡ m = cc e in
+          ap (λ x. cond (all_right ls) x (Err BadLine)) (line_taken s (claim_of l) (values_in l) (claims ls) (value_lines ls)) ∙ ap (λ t. claim_after t ls) same

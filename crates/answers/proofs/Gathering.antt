@@ -1,5 +1,5 @@
 -- Literals that are gathered word by word, and line by line. Assumes nothing.
-use Rattle.std.proofs.Common.{◌≡◌, ℕ, Bool, true, false, cond, ◌&&◌, List, [], ◌∷◌, ◌++◌, map, Some, None, Err, Result, Vec, Global, sym, refl, ap, ◌∙◌, subst, append_assoc}
+use Rattle.std.proofs.Common.{◌≡◌, ℕ, true, false, cond, ◌&&◌, List, [], ◌∷◌, ◌++◌, map, Some, None, Err, Result, Vec, Global, sym, refl, ap, ◌∙◌, subst, append_assoc, arith}
 use Rattle.std.proofs.lemmas.List.{map-append}
 use Rattle.order.specs.Between.{joined}
 use Rattle.words.specs.Split.{words}
@@ -8,7 +8,7 @@ use Rattle.sink.specs.Text.{lit_of}
 use Rattle.answers.specs.Literals.{is_literal, all_literals, value_words, Tells, Gives}
 use Rattle.answers.specs.declared.literals.LiteralFault.{LiteralFault}
 use Rattle.answers.specs.declared.literals.LiteralFault.TheVariants.{BadWord, NoMemory}
-use Rattle.answers.specs.Lines.{is_comment, values_of, before, value_lines}
+use Rattle.answers.specs.Lines.{is_comment, values_of, value_lines}
 
 -- of the words `all` the words `left` are left, once the literals s became t
 abbrev pub WordsLeft : ℕ → List (List ℕ) → List (List ℕ) → List Lit → List Lit → Type 0
@@ -17,11 +17,7 @@ WordsLeft v all left s t =
 
 module _ (v : ℕ) (w : List ℕ) where
   pub is_one : (l : Lit) → cond (is_literal v w) (Some (lit_of w)) None ≡ Some l → (is_literal v w ≡ true) × (l ≡ lit_of w)
-  is_one l e = go (is_literal v w) e
-    where
-      go : (b : Bool) → cond b (Some (lit_of w)) None ≡ Some l → (b ≡ true) × (l ≡ lit_of w)
-      go true e = (refl, cc e)
-      go false e = absurd (cc e)
+  is_one l e = (grind arith, grind arith)
 
 module _ (v : ℕ) (all left more : List (List ℕ)) (w : List ℕ) (s t : List Lit) (inv : WordsLeft v all left s t) (first : left ≡ w ∷ more) where
   -- one word more
@@ -35,11 +31,7 @@ module _ (v : ℕ) (all left more : List (List ℕ)) (w : List ℕ) (s t : List 
 
 all_append : (v : ℕ) (ws us : List (List ℕ)) → all_literals v (ws ++ us) ≡ (all_literals v ws && all_literals v us)
 all_append v [] us = refl
-all_append v (w ∷ ws) us = go (is_literal v w) (all_append v ws us)
-  where
-    go : (b : Bool) → all_literals v (ws ++ us) ≡ (all_literals v ws && all_literals v us) → (b && all_literals v (ws ++ us)) ≡ ((b && all_literals v ws) && all_literals v us)
-    go true ih = ih
-    go false ih = refl
+all_append v (w ∷ ws) us = grind (arith, all_append v ws us)
 
 module _ (v : ℕ) (all left ws more : List (List ℕ)) (s t : List Lit) (inv : WordsLeft v all left s t) (first : left ≡ ws ++ more) where
   -- the words of a line more
@@ -59,9 +51,7 @@ abbrev pub words_of : List (List ℕ) → List (List ℕ)
 words_of ls = joined words (value_lines ls)
 
 pub value_line : (l bs : List ℕ) (ls : List (List ℕ)) → is_comment l ≡ false → values_of l ≡ Some bs → words_of (l ∷ ls) ≡ words bs ++ words_of ls
-value_line l bs ls other e =
-    ap (λ b. joined words (before (cond b None (values_of l)) (value_lines ls))) other
-    ∙ ap (λ o. joined words (before o (value_lines ls))) e
+value_line l bs ls other e = rw (other, e) refl
 
 -- a line's fault is the answer's
 pub gives_fault : (text : List ℕ) (v : ℕ) (ws : List (List ℕ)) (s t : Vec Lit Global) (r : Result (Vec Lit Global) LiteralFault) (f : LiteralFault) → r ≡ Err f → Tells ws v s (Err f) t → (all_literals v ws ≡ false → all_literals v (value_words text) ≡ false) → Gives text v r

@@ -1,9 +1,10 @@
 //! The literals that the value lines of an answer give.
 ghost use Rattle.std.specs.Prelude.{◌≡◌, if◌then◌else◌, Some, None};
 ghost use Rattle.sink.specs.Text.{lit_of};
+ghost use Rattle.words.specs.Shapes.{number};
 ghost use Rattle.words.specs.Split.{words};
 ghost use Rattle.answers.specs.declared.literals.LiteralFault.TheVariants.{NoMemory};
-ghost use Rattle.answers.specs.Literals.{is_literal, Gives, Tells};
+ghost use Rattle.answers.specs.Literals.{is_literal, is_plain, Gives, Tells};
 
 use crate::line::Line;
 use sink::lit::Lit;
@@ -26,20 +27,29 @@ impl<T: Drop> From<AllocFailed<T>> for LiteralFault {
     }
 }
 
-/// The literal of a word: 0, or a number from -V to V with its first digit not 0; none for any other word.
-pub fn literal(word: &[u8], variables: u16) -> Option<Lit>
-    ensures { result ≡ (if is_literal variables word.now then Some (lit_of word.now) else None) }
+// The number from 1 to V that digits say, the first of them not 0; none for any other bytes.
+fn plain(digits: &[u8], variables: u16) -> Option<u16>
+    ensures { result ≡ (if is_plain variables digits.now then Some (number digits.now) else None) }
 {
-    let (digits, negated) = match word {
-        [b'0'] => (word, false),
-        [b'0', ..] | [b'-', b'0', ..] => return None,
-        [b'-', digits @ ..] => (digits, true),
-        _ => (word, false),
-    };
+    if let [b'0', ..] = digits {
+        return None;
+    }
     let variable = u16::try_from(decimal(digits)?).ok()?;
     if variable > variables {
         return None;
     }
+    Some(variable)
+}
+
+/// The literal of a word: 0, or a number from -V to V with its first digit not 0; none for any other word.
+pub fn literal(word: &[u8], variables: u16) -> Option<Lit>
+    ensures { result ≡ (if is_literal variables word.now then Some (lit_of word.now) else None) }
+{
+    let (variable, negated) = match word {
+        [b'0'] => (0, false),
+        [b'-', digits @ ..] => (plain(digits, variables)?, true),
+        _ => (plain(word, variables)?, false),
+    };
     Some(Lit { variable, negated })
 }
 

@@ -1,56 +1,25 @@
 -- The first line and the first word of a list by their places. Assumes nothing.
-use Rattle.std.proofs.Common.{◌≡◌, ℕ, ◌+◌, ◌-◌, ◌<◌, ◌≤◌, min, not, false, cond, eqb, ltb, Some, None, Option, List, [], ◌∷◌, length, get_or, take, drop, sym, refl, ap, ◌∙◌, inl, inr, arith}
-use Rattle.std.specs.List.{between}
+use Rattle.std.proofs.Common.{◌≡◌, ℕ, ◌+◌, ◌-◌, ◌<◌, ◌≤◌, min, not, false, cond, eqb, ltb, Some, None, Option, List, [], ◌∷◌, length, get_or, take, drop, sym, refl, ap, ◌∙◌, arith}
 use Rattle.std.specs.Option.{unwrap_or}
-use Rattle.std.proofs.lemmas.List.{take-take, take_min, drop-take, drop-drop, drop_all, get_or-drop, length-drop, length-take}
+use Rattle.std.proofs.lemmas.List.{take-take, drop-take, drop-drop, drop_all, get_or-drop, length-drop, length-take}
 use Rattle.std.proofs.lemmas.List.Sums.{prefix_len-le-length, passes_at_first}
-use Rattle.std.proofs.lemmas.Slice.{between_is}
-use Rattle.std.proofs.lemmas.Bool.{cases_lt, not-true, cond-true, cond-false, lt-ltb, le-ltb}
+use Rattle.std.proofs.lemmas.Bool.Decides.{nat_tests}
+use Rattle.std.proofs.lemmas.Bool.{not-true}
 use Rattle.words.specs.Parts.{bytes, part, FirstLine, FirstWord}
 use Rattle.words.specs.Split.{lines, words}
 use Rattle.words.specs.declared.parts.Part.{Part}
 use Rattle.words.proofs.Splitting.{before, blanks, lines_first, words_after_blanks, words_first}
 
-between_crossed : (text : List ℕ) (a e : ℕ) → e ≤ a → between a e text ≡ []
-between_crossed text a e le = let n : e - a ≡ 0 = omega arith in rw n
-
--- a part by ends inside the list
-pub between_inside : (text : List ℕ) (a b s e : ℕ) → e ≡ min b (length text) → (a < e → s ≡ a) → (e ≤ a → e ≤ s) → between s e text ≡ between a b text
-between_inside text a b s e is same crossed =
-    elim (cases_lt a e) [
-      | inl lt ↦ ap (λ i. between i e text) (same lt)
-      | inr le ↦ between_crossed text s e (crossed le) ∙ sym (between_crossed text a e le)
-    ]
-    ∙ ap (λ n. between a n text) is
-    ∙ between_is text a (min b (length text))
-    ∙ ap (drop a) (take_min b text)
-    ∙ sym (between_is text a b)
-
-pub no_line : (text : List ℕ) (a : ℕ) → length text ≤ a → lines (drop a text) ≡ []
-no_line text a past = ap lines (drop_all a text past)
-
 -- what a search by a test finds
 module _ (n m : ℕ) where
   pub found_at : (k : ℕ) → cond (ltb n m) (Some n) None ≡ Some k → (k ≡ n) × (n < m)
-  found_at k e =
-      elim (cases_lt n m) [
-        | inl lt ↦ (let f : Some n ≡ Some k = sym (cond-true _ _ _ (lt-ltb n m lt)) ∙ e in cc, lt)
-        | inr le ↦ (let f : None ≡ Some k = sym (cond-false _ _ _ (le-ltb n m le)) ∙ e in cc)
-      ]
+  found_at k e = (grind (arith, nat_tests), grind (arith, nat_tests))
 
   pub found_none : cond {A = Option ℕ} (ltb n m) (Some n) None ≡ None → m ≤ n
-  found_none e =
-      elim (cases_lt n m) [
-        | inl lt ↦ (let f : Some n ≡ None = sym (cond-true _ _ _ (lt-ltb n m lt)) ∙ e in cc)
-        | inr le ↦ le
-      ]
+  found_none e = grind (arith, nat_tests)
 
-pub found_or_end : (n m : ℕ) (r : Option ℕ) → n ≤ m → r ≡ cond (ltb n m) (Some n) None → unwrap_or r m ≡ n
-found_or_end n m r le e =
-    elim (cases_lt n m) [
-      | inl lt ↦ ap (λ o. unwrap_or o m) (e ∙ cond-true _ _ _ (lt-ltb n m lt))
-      | inr past ↦ ap (λ o. unwrap_or o m) (e ∙ cond-false _ _ _ (le-ltb n m past)) ∙ omega arith
-    ]
+  pub found_or_end : (r : Option ℕ) → n ≤ m → r ≡ cond (ltb n m) (Some n) None → unwrap_or r m ≡ n
+  found_or_end r le e = grind (arith, nat_tests)
 
 pub before_within : (x : ℕ) (l : List ℕ) → before x l ≤ length l
 before_within x l = prefix_len-le-length (λ b. not (eqb b x)) l

@@ -4,7 +4,7 @@ ghost use Rattle.words.specs.Tokens.{Reads};
 use crate::shapes::{is_name, number};
 
 /// A word by its shape, with its bytes as they stand in the sheet.
-#[derive(Clone, Copy)]
+#[derive(Clone, Copy, Debug, PartialEq, Eq)]
 pub enum Word<'a> {
     Name(&'a [u8]),
     Number(&'a [u8], u16),

@@ -1,11 +1,8 @@
 use Rattle.std.proofs.Common.{ap, ◌∙◌, arith}
 use Rattle.std.proofs.lemmas.List.{take_rest}
-use Rattle.words.proofs.Places.{first_line, no_line}
+use Rattle.words.proofs.Places.{first_line}
 use Rattle.words.proofs.Splitting.{before}
 use Rattle.words.proofs.lines.next_line.Goals as goal
-
-pub returns-then-from-text : goal.returns-then-from-text
-returns-then-from-text c = no_line _ _ c.if-from-text.true
 
 pub returns : goal.returns
 returns c =
