@@ -26,7 +26,7 @@ abbrev pub Short : List Bound → Type 0
 Short c = length c ≤ 64
 
 -- an order clause has two bounds
-orders_short : (rs : List Range) → AllByRecursion Short (orders rs)
+pub orders_short : (rs : List Range) → AllByRecursion Short (orders rs)
 orders_short rs =
     all_between_from (order rs) Short 0 (length rs)
     (λ x _ _. all_between_from (step x) Short (low rs x + 1) (high rs x) (λ t _ _. (lit≤ tt, tt)))
@@ -35,7 +35,7 @@ orders_short rs =
 order_few : (rs : List Range) (x : ℕ) → length (order rs x) ≤ width rs x
 order_few rs x = omega (arith, length_between (step x) 1 (λ t. lit≤ tt) (low rs x + 1) (high rs x) (width rs x) (omega arith))
 
-orders_few : (rs : List Range) (n : ℕ) → length (between (order rs) 0 n) ≤ first rs n
+pub orders_few : (rs : List Range) (n : ℕ) → length (between (order rs) 0 n) ≤ first rs n
 orders_few rs zero = lit≤ tt
 orders_few rs (suc n) =
     let more : between (order rs) 0 (n + 1) ≡ between (order rs) 0 n ++ order rs n = between_more (order rs) 0 n (omega arith) in

@@ -34,11 +34,11 @@ bits_more rs rs' r more =
     ap total_bits more ∙ ap (first (rs ++ r ∷ [])) (length_push rs r) ∙ first_push_all rs r
 
 -- the test of a range that was made
-made_range : (b : Bool) (r s : Range) → Some r ≡ cond b (Some s) None → (b ≡ true) × (r ≡ s)
+pub made_range : (b : Bool) (r s : Range) → Some r ≡ cond b (Some s) None → (b ≡ true) × (r ≡ s)
 made_range true r s e = (refl, grind arith)
 made_range false r s e = absurd (grind arith)
 
-is_range_ends : (l h : ℕ) → is_range l h ≡ true → (l ≤ h) × (h ≤ 255)
+pub is_range_ends : (l h : ℕ) → is_range l h ≡ true → (l ≤ h) × (h ≤ 255)
 is_range_ends l h e = grind (arith, nat_tests)
 
 -- the view of a job that took a range

@@ -58,7 +58,7 @@ free_few f zero = lit≤ tt
 free_few f (suc n) = grind (arith, free_few f n)
 
 -- the file of short clauses that are few
-all_written_proper : (rs : List Range) (f : ℕ → Literal) → Named f → Fixed f → total_bits rs ≤ 4096 → (cs : List (List Bound)) → AllByRecursion Short cs → length cs < 2147483648 → Proper (free_to f (total_bits rs)) (written_all rs f cs)
+pub all_written_proper : (rs : List Range) (f : ℕ → Literal) → Named f → Fixed f → total_bits rs ≤ 4096 → (cs : List (List Bound)) → AllByRecursion Short cs → length cs < 2147483648 → Proper (free_to f (total_bits rs)) (written_all rs f cs)
 all_written_proper rs f named fixed bits cs short few = record {
   small = omega (arith, free_few f (total_bits rs));
   few = omega (arith, written_few rs f cs);
@@ -115,7 +115,7 @@ pub record Measured (u : Costs) (n : ℕ) (ws : List (List Lit)) (h : Header) (t
   pub cost : t ≡ file_cost u n ws
 
 module _ (n : ℕ) (ws : List (List Lit)) (p : Proper n ws) where
-  header_proper : proper_header (head n ws) ≡ true
+  pub header_proper : proper_header (head n ws) ≡ true
   header_proper = grind (arith, nat_tests)
 
   -- costs that stay at the largest number do not come there
@@ -123,7 +123,7 @@ module _ (n : ℕ) (ws : List (List Lit)) (p : Proper n ws) where
     pub clauses_small : total_cost u ws ≤ 2199023255552
     clauses_small = omega (arith, total_small u law n p.small ws p.fits, p.few)
 
-    measured : (h : Header) (a b t : ℕ) → h ≡ head n ws → a ≡ u.header h → capped b ≡ capped (total_cost u ws) → t ≡ capped (a + b) → Measured u n ws h t
+    pub measured : (h : Header) (a b t : ℕ) → h ≡ head n ws → a ≡ u.header h → capped b ≡ capped (total_cost u ws) → t ≡ capped (a + b) → Measured u n ws h t
     measured h a b t made first rest sum =
         let same : u.header h ≡ u.header (head n ws) = ap u.header made in
         record {

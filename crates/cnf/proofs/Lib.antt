@@ -1,4 +1,3 @@
-pub mod CostSteps
 pub mod Inside
 pub mod Keeping
 pub mod NumberSteps

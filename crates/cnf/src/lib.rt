@@ -8,4 +8,5 @@ pub mod numbering;
 pub mod put;
 mod reduce;
 pub mod role;
+mod room;
 pub mod roots;

@@ -8,10 +8,5 @@ use order::literal::Literal;
 pub fn has(clause: &[Literal], l: Literal) -> bool
     ensures { result ≡ has clause.now l }
 {
-    for m in clause {
-        if *m == l {
-            return true;
-        }
-    }
-    false
+    clause.contains(&l)
 }

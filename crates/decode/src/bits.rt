@@ -1,14 +1,13 @@
 //! The truth of each bit.
 ghost use Rattle.std.specs.Prelude.{◌≡◌, ℕ, ◌≤◌, true, length, IfOk};
-ghost use Rattle.order.specs.declared.literal.Literal.{Literal};
 ghost use Rattle.order.specs.Literals.{truth};
 ghost use Rattle.ties.specs.Roots.{root_at, free_to, there};
 ghost use Rattle.ties.specs.Views.{roots_of};
-ghost use Rattle.cnf.specs.Numbered.{Numbers};
+ghost use Rattle.cnf.specs.Encoded.{root_in, bits_in};
 ghost use Rattle.theory.specs.Truth.{through};
 ghost use Rattle.decode.specs.Bits.{number_at, bit_at};
 
-use cnf::numbering::numbers;
+use cnf::numbering::Numbering;
 use order::literal::Literal;
 use std::alloc::{AllocError, Global};
 use ties::classes::Ties;
@@ -48,36 +47,23 @@ pub fn bit_truths(heap: Global, ties: &Ties, truths: &[bool]) -> Result<Vec<bool
     ensures { IfOk result (λ bits. (length bits.items ≡ length (roots_of ties.now)) × ((n : ℕ) → 1 ≤ n → n ≤ length (roots_of ties.now) → bit_at bits.items n ≡ through (root_at (roots_of ties.now)) (λ m. number_at truths.now (free_to (root_at (roots_of ties.now)) m)) n)) }
 {
     let count = ties.len() as u16;
-    let numbers = numbers(heap, ties, count)?;
+    let numbering = Numbering::new(heap, ties, count)?;
     let mut bits = Vec::new(heap);
     for k in 0..count {
         let root = ties.root(Literal::Bit(k + 1));
-        bits.push(root_truth(&numbers, truths, root))?;
+        bits.push(root_truth(&numbering, truths, root))?;
     }
     Ok(bits)
 }
 
 // The truth of a root: a free bit has that of its number.
-fn root_truth(numbers: &[u16], truths: &[bool], root: Literal) -> bool
-    ensures { (f : ℕ → Literal) → Numbers f numbers.now → there (length numbers.now) root ≡ true → result ≡ truth (λ m. number_at truths.now (free_to f m)) root }
+fn root_truth(numbering: &Numbering<'_, Ties>, truths: &[bool], root: Literal) -> bool
+    ensures { there (bits_in numbering.now) root ≡ true → result ≡ truth (λ m. number_at truths.now (free_to (root_in numbering.now) m)) root }
 {
     match root {
         Literal::False => false,
         Literal::True => true,
-        Literal::Bit(n) => number_truth(truths, bit_number(numbers, n)),
-        Literal::Not(n) => !number_truth(truths, bit_number(numbers, n)),
-    }
-}
-
-// The number of a free bit; 0 where there is none.
-fn bit_number(numbers: &[u16], bit: u16) -> u16
-    ensures { (f : ℕ → Literal) → Numbers f numbers.now → bit ≤ length numbers.now → result ≡ free_to f bit }
-{
-    if bit == 0 {
-        return 0;
-    }
-    match numbers.get(usize::from(bit) - 1) {
-        Some(number) => *number,
-        None => 0,
+        Literal::Bit(n) => number_truth(truths, numbering.number(n)),
+        Literal::Not(n) => !number_truth(truths, numbering.number(n)),
     }
 }

@@ -1,7 +1,6 @@
 -- One variable more: its bits, and the view of the job. Assumes nothing.
-use Rattle.std.proofs.Common.{◌≡◌, ℕ, ◌+◌, ◌-◌, ◌<◌, ◌≤◌, Bool, true, false, cond, List, [], ◌∷◌, ◌++◌, length, Some, None, Ok, Err, Result, sym, refl, ap, ◌∙◌, arith}
+use Rattle.std.proofs.Common.{◌≡◌, ℕ, ◌+◌, ◌-◌, ◌<◌, ◌≤◌, true, cond, List, [], ◌∷◌, ◌++◌, length, Some, None, Ok, Err, Result, sym, ap, ◌∙◌, arith}
 use Rattle.std.proofs.lemmas.Bool.{both_ways, false≢true, le-leb}
-use Rattle.std.proofs.lemmas.Bool.Decides.{nat_tests}
 use Rattle.order.specs.declared.range.Range.{Range}
 use Rattle.order.specs.declared.variables.adding.AddError.{AddError}
 use Rattle.order.specs.declared.variables.adding.AddError.TheVariants.{TooManyVariables, TooManyBits, NoMemory}
@@ -9,7 +8,7 @@ use Rattle.order.specs.Ranges.{is_range, range, total_bits}
 use Rattle.order.specs.Variables.{Adds, answered, few_variables, few_bits}
 use Rattle.calls.specs.Questions.{verdict}
 use Rattle.calls.proofs.Asking.{all_yes}
-use Rattle.calls.proofs.Declaring.{bits_more}
+use Rattle.calls.proofs.Declaring.{bits_more, made_range, is_range_ends}
 use Rattle.job.specs.Declares.{declaring, declare_questions}
 use Rattle.job.specs.View.{View, with_variable}
 
@@ -19,14 +18,6 @@ added_bits (Ok x) rs rs' r a e few small = bits_more rs rs' r a.3
 added_bits (Err TooManyVariables) rs rs' r a e few small = absurd (both_ways (few_variables rs 1) a.0 (le-leb (length rs + 1) 512 (omega arith)))
 added_bits (Err TooManyBits) rs rs' r a e few small = absurd (both_ways (few_bits rs (r.high - r.low)) a.1 (le-leb (total_bits rs + (r.high - r.low)) 4096 small))
 added_bits (Err NoMemory) rs rs' r a e few small = absurd (false≢true e)
-
--- the test of a range that was made
-made_range : (b : Bool) (r s : Range) → Some r ≡ cond b (Some s) None → (b ≡ true) × (r ≡ s)
-made_range true r s e = (refl, grind arith)
-made_range false r s e = absurd (grind arith)
-
-is_range_ends : (l h : ℕ) → is_range l h ≡ true → (l ≤ h) × (h ≤ 255)
-is_range_ends l h e = grind (arith, nat_tests)
 
 pub declared : (v v' : View) (low high x : ℕ) (r : Range) → Some r ≡ cond (is_range low high) (Some (range low high)) None → few_variables v.ranges 1 ≡ true → few_bits v.ranges (r.high - r.low) ≡ true → x ≡ length v.ranges → v'.ranges ≡ v.ranges ++ r ∷ [] → v'.root ≡ v.root → declaring v low high ≡ Ok (x, v')
 declared v v' low high x r made few small place more same =

@@ -6,6 +6,9 @@ use Rattle.ties.specs.declared.classes.Ties.{Ties}
 use Rattle.ties.specs.Roots.{root_at}
 use Rattle.ties.specs.Views.{roots_of}
 use Rattle.order.specs.declared.variables.Variables.{Variables}
+use Rattle.cnf.specs.declared.encode.Encoder.{Encoder}
+use Rattle.cnf.specs.declared.roots.Roots.{Ghosts}
+use Rattle.cnf.specs.Encoded.{encoder_ranges, encoder_root}
 use Rattle.job.specs.declared.open.OpenJob.{OpenJob}
 use Rattle.job.specs.declared.closed.ClosedJob.{ClosedJob}
 use Rattle.job.specs.declared.closed.writer.Writer.{Writer}
@@ -25,8 +28,12 @@ open_view j = parts_view j.variables j.ties
 abbrev pub closed_view : ClosedJob → View
 closed_view j = parts_view j.variables j.ties
 
+-- the view of what an encoder was made for
+abbrev pub encoder_view : {g : Ghosts Ties} → Encoder Ties g → View
+encoder_view e = record { ranges = encoder_ranges e; root = encoder_root e }
+
 abbrev pub writer_view : Writer → View
-writer_view w = parts_view w.variables.now w.ties.now
+writer_view w = encoder_view w.encoder
 
 -- there is memory for one variable of n bits more
 abbrev pub SpareBits : OpenJob → ℕ → Type 0

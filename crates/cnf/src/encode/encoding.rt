@@ -1,67 +1,62 @@
 //! Making an encoder, and encoding a clause.
-ghost use Rattle.std.specs.Prelude.{◌≡◌, ℕ, ◌≤◌, List, [], ◌∷◌, length, IfOk, if◌then◌else◌};
-ghost use Rattle.order.specs.declared.literal.Literal.{Literal};
-ghost use Rattle.order.specs.declared.range.Range.{Range};
+ghost use Rattle.std.specs.Prelude.{◌≡◌, ◌≤◌, length, IfOk, option_copied, option_to_list};
+ghost use Rattle.std.specs.Borrow.{sem};
 ghost use Rattle.order.specs.Ranges.{total_bits};
 ghost use Rattle.order.specs.Variables.{ranges_of};
 ghost use Rattle.ties.specs.Roots.{free_to};
-ghost use Rattle.cnf.specs.Numbered.{written_clause};
-ghost use Rattle.cnf.specs.Encoded.{Ready};
+ghost use Rattle.cnf.specs.Encoded.{encoded, encoder_ranges, encoder_root};
+ghost use Rattle.cnf.specs.Lending.{LendsClause};
 
 use super::Encoder;
-use crate::numbering::{number_all, numbers};
+use crate::numbering::Numbering;
 use crate::reduce::reduce;
+use crate::room::{MOST_LITERALS, Room};
 use crate::roots::Roots;
 use order::bound::Bound;
 use order::variables::Variables;
 use sink::lit::Lit;
 use std::alloc::{AllocError, Global};
 
-impl Encoder {
+impl<'a, R: Roots> Encoder<'a, R> {
     /// An encoder for the variables and their roots.
-    pub fn new<R: Roots>(
+    pub fn new(
         heap: Global,
-        variables: &Variables,
-        roots: &R,
-    ) -> Result<Encoder, AllocError>
-        ensures { IfOk result (λ e. Ready (ranges_of variables.now) (R.Roots.root roots.now) e) }
+        variables: &'a Variables,
+        roots: &'a R,
+    ) -> Result<Encoder<'a, R>, AllocError>
+        ensures ranges { IfOk result (λ e. encoder_ranges e ≡ ranges_of variables.now) }
+        ensures roots { IfOk result (λ e. encoder_root e ≡ R.root roots.now) }
     {
         Ok(Encoder {
-            numbers: numbers(heap, roots, variables.bits() as u16)?,
-            literals: Vec::with_capacity(heap, 64)?,
-            lits: Vec::with_capacity(heap, 64)?,
+            variables,
+            numbering: Numbering::new(heap, roots, variables.bits() as u16)?,
+            reduced: Room::new(heap)?,
+            written: Room::new(heap)?,
         })
     }
 
-    /// Encodes a clause of at most 64 bounds, and answers whether it is written at all.
-    pub fn encode<R: Roots>(&mut self, variables: &Variables, roots: &R, clause: &[Bound]) -> bool
-        ensures same { self.new.numbers ≡ self.old.numbers }
-        ensures written { Ready (ranges_of variables.now) (R.Roots.root roots.now) self.old → length clause.now ≤ 64 → written_clause (ranges_of variables.now) (R.Roots.root roots.now) clause.now ≡ (if result then self.new.lits.items ∷ [] else []) }
+    /// Encodes a clause of at most 64 bounds; none where it is not written.
+    pub fn encode(&mut self, clause: &[Bound]) -> Option<&[Lit]>
+        ensures* kept { sem 𝓛 (LendsClause R.row R.Roots self.entry) }
+        ensures written { length clause.now ≤ 64 → encoded self.old clause.now ≡ option_to_list (option_copied result) }
     {
-        if clause.len() > 64 {
-            return false;
+        if clause.len() > MOST_LITERALS {
+            return None;
         }
-        if !reduce(variables, roots, clause, &mut self.literals) {
-            return false;
-        }
-        number_all(&self.numbers, &self.literals, &mut self.lits);
-        true
+        let literals = reduce(
+            self.variables,
+            self.numbering.roots,
+            clause,
+            &mut self.reduced,
+        )?;
+        self.numbering.number_all(literals, &mut self.written);
+        Some(self.written.literals.as_slice())
     }
 
     /// How many bits are free: the variables of the file.
     pub fn free(&self) -> u16
-        ensures { (rs : List Range) (f : ℕ → Literal) → Ready rs f self.now → result ≡ free_to f (total_bits rs) }
+        ensures { result ≡ free_to (encoder_root self.now) (total_bits (encoder_ranges self.now)) }
     {
-        match self.numbers.last() {
-            Some(number) => *number,
-            None => 0,
-        }
-    }
-
-    /// The clause that was encoded last.
-    pub fn lits(&self) -> &[Lit]
-        ensures { result.now ≡ self.now.lits.items }
-    {
-        self.lits.as_slice()
+        self.numbering.free()
     }
 }

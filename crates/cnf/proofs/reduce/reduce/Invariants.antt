@@ -1,11 +1,11 @@
-use Rattle.std.proofs.Common.{◌≡◌, ◌≤◌, vec_items, vec_len, vec_capacity}
+use Rattle.std.proofs.Common.{◌≤◌, vec_items, vec_len}
 use Rattle.order.specs.Variables.{ranges_of}
 use Rattle.cnf.specs.Numbered.{rooted}
 use Rattle.cnf.proofs.Keeping.{Kept}
 use Rattle.cnf.proofs.reduce.reduce.Given as goal
 
 abbrev pub invariant-loop-bound : goal.invariant-loop-bound
-invariant-loop-bound g l =
-    Kept (rooted (ranges_of l.variables) (g.R.Roots.root l.roots) l.clause) l.bound-index (vec_items l.out)
-    × (vec_len l.out ≤ l.bound-index)
-    × (vec_capacity l.out ≡ vec_capacity l.initial.out)
+invariant-loop-bound g l = record {
+  kept : Kept (rooted (ranges_of l.variables) (g.R.Roots.root l.roots) l.clause) l.bound-index (vec_items l.room.literals);
+  short : vec_len l.room.literals ≤ l.bound-index;
+}

@@ -1,22 +1,20 @@
 //! Writing a closed job: what it costs first, then header and clauses.
-ghost use Rattle.std.specs.Prelude.{◌≡◌, length, IfOk, nat_lt};
-ghost use Rattle.order.specs.Variables.{ranges_of};
-ghost use Rattle.cnf.specs.Encoded.{Ready};
+ghost use Rattle.std.specs.Prelude.{◌≡◌, length, IfOk};
 ghost use Rattle.cnf.specs.Passed.{total_cost, with_clauses};
 ghost use Rattle.calls.specs.Questions.{Replies};
 ghost use Rattle.job.specs.Writes.{output, writing};
-ghost use Rattle.job.specs.Views.{closed_view, writer_view, parts_view, root_of};
+ghost use Rattle.job.specs.Views.{closed_view, writer_view, encoder_view};
 
 use super::Writer;
 use crate::closed::ClosedJob;
 use crate::refusal::Refusal;
-use cnf::cost::Costing;
+use cnf::cost::{Costing, Tally};
 use cnf::encode::Encoder;
 use cnf::put::Putting;
-use order::variables::Variables;
 use sink::header::Header;
 use sink::sinks::Sink;
 use std::alloc::{AllocError, Global};
+use std::marker::PhantomData;
 use ties::classes::Ties;
 
 impl ClosedJob {
@@ -25,56 +23,37 @@ impl ClosedJob {
         ensures { IfOk result (λ w. writer_view w ≡ closed_view self.now) }
     {
         Ok(Writer {
-            variables: &self.variables,
-            ties: &self.ties,
             encoder: Encoder::new(heap, &self.variables, &self.ties)?,
         })
     }
 }
 
-// Counts the clauses that will be written, and adds up what they cost; gives the encoder back first.
-fn measure<S: Sink>(
-    variables: &Variables,
-    ties: &Ties,
-    encoder: Encoder,
-    sink: &S,
-) -> (Encoder, usize, usize)
-    requires { Ready (ranges_of variables.now) (root_of ties.now) encoder }
-    ensures ready { Ready (ranges_of variables.now) (root_of ties.now) result.0 }
-    ensures clauses { result.1 ≡ length (output (parts_view variables.now ties.now)) }
-    ensures cost { result.2 ≡ total_cost S.Sink.costs (output (parts_view variables.now ties.now)) }
+// Counts the clauses that will be written, and adds up what they cost.
+fn measure<S: Sink>(encoder: &mut Encoder<'_, Ties>) -> Tally
+    ensures same { encoder_view encoder.new ≡ encoder_view encoder.old }
+    ensures clauses { result.clauses ≡ length (output (encoder_view encoder.old)) }
+    ensures cost { result.cost ≡ total_cost S.Sink.costs (output (encoder_view encoder.old)) }
 {
-    let mut costing = Costing {
-        variables,
-        roots: ties,
-        sink,
+    let variables = encoder.variables;
+    let mut costing = Costing::<Ties, S> {
         encoder,
-        clauses: 0,
-        cost: 0,
+        tally: Tally {
+            clauses: 0,
+            cost: 0,
+        },
+        sink: PhantomData,
     };
     variables.visit_orders(&mut costing);
-    (costing.encoder, costing.clauses, costing.cost)
+    costing.tally
 }
 
 // Puts the clauses into the sink.
-fn put<S: Sink>(variables: &Variables, ties: &Ties, encoder: &mut Encoder, sink: &mut S)
-    requires { Ready (ranges_of variables.now) (root_of ties.now) encoder.old }
-    ensures { S.Sink.state sink.new ≡ with_clauses S.Sink.costs (S.Sink.state sink.old) (output (parts_view variables.now ties.now)) }
+fn put<S: Sink>(encoder: &mut Encoder<'_, Ties>, sink: &mut S)
+    ensures { S.Sink.state sink.new ≡ with_clauses S.Sink.costs (S.Sink.state sink.old) (output (encoder_view encoder.old)) }
 {
-    let mut putting = Putting {
-        variables,
-        roots: ties,
-        sink,
-        encoder,
-    };
+    let variables = encoder.variables;
+    let mut putting = Putting { encoder, sink };
     variables.visit_orders(&mut putting);
-}
-
-// Whether the sink has fewer units left than these.
-fn lacks<S: Sink>(sink: &S, units: usize) -> bool
-    ensures { result ≡ nat_lt (S.Sink.state sink.now).left units }
-{
-    units > sink.units_left()
 }
 
 impl Writer<'_> {
@@ -85,22 +64,17 @@ impl Writer<'_> {
         if sink.has_header() {
             return Err(Refusal::HeaderPresent);
         }
-        let Writer {
-            variables,
-            ties,
-            encoder,
-        } = self;
-        let free = encoder.free();
-        let (mut encoder, clauses, cost) = measure(variables, ties, encoder, &*sink);
+        let Writer { mut encoder } = self;
+        let tally = measure::<S>(&mut encoder);
         let header = Header {
-            variables: free,
-            clauses: clauses as u32,
+            variables: encoder.free(),
+            clauses: tally.clauses as u32,
         };
-        if lacks(&*sink, S::header_cost(header) + cost) {
+        if S::header_cost(header) + tally.cost > sink.units_left() {
             return Err(Refusal::NoSpace);
         }
         sink.take_header(header);
-        put(variables, ties, &mut encoder, sink);
+        put(&mut encoder, sink);
         Ok(header)
     }
 }
