@@ -8,7 +8,7 @@ use order::bound::Bound;
 use order::range::Range;
 
 /// An item of a row: a variable, or a bound on one.
-#[derive(Clone, Copy, Debug)]
+#[derive(Clone, Copy, PartialEq, Eq, Debug)]
 pub enum Item {
     Variable(u16),
     Bounded(Bound),
@@ -27,7 +27,7 @@ impl Item {
 }
 
 /// Two bounds that are said to be equally true.
-#[derive(Clone, Copy, Debug)]
+#[derive(Clone, Copy, PartialEq, Eq, Debug)]
 pub struct Tie {
     pub left: Bound,
     pub right: Bound,

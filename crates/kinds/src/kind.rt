@@ -27,6 +27,7 @@ pub trait Kind {
     fn formed(items: &[Item]) -> bool
         ensures { result ≡ meaning.formed items.now };
 
+    // Kept as it is: items and ranges stay two parameters, since `formed` and `met` take the items without ranges.
     /// Whether the ranges of the items' variables fit the kind.
     fn fits(items: &[Item], ranges: &[Range]) -> bool
         ensures { result ≡ meaning.fits items.now ranges.now };

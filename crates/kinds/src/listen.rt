@@ -4,7 +4,6 @@ ghost use Rattle.order.specs.declared.bound.Bound.{Bound};
 ghost use Rattle.kinds.specs.Items.{Pairing, pairing};
 
 use crate::item::Tie;
-use order::bound::Bound;
 
 /// What is shown pairings, one after the other: a premise of ties, and the tie that it gives.
 /// `hears s p t` says that the pairing p takes it from s to t.
@@ -12,6 +11,7 @@ pub trait Listener {
     ghost hears: { Self → Pairing → Self → Type 0 };
 
     /// Takes note of a pairing.
+    // Kept as it is: a struct of premise and tie would be no plainer, since each call would write it out and take it apart.
     fn hear(&mut self, premise: &[Tie], gives: Tie)
         ensures { hears self.old (pairing premise.now gives) self.new };
 }
@@ -20,7 +20,7 @@ pub trait Listener {
 pub trait Standing {
     ghost stands: { Self → Bound → Bound → Bool };
 
-    /// Whether two bounds are tied.
-    fn tied(&self, left: Bound, right: Bound) -> bool
-        ensures { result ≡ stands self.now left right };
+    /// Whether a tie stands.
+    fn tied(&self, tie: Tie) -> bool
+        ensures { result ≡ stands self.now tie.left tie.right };
 }

@@ -2,7 +2,7 @@
 use crate::item::Item;
 
 /// What a row says: the code of its kind, and its items.
-#[derive(Clone, Copy, Debug)]
+#[derive(Clone, Copy, PartialEq, Eq, Debug)]
 pub struct Row<'a> {
     pub code: u8,
     pub items: &'a [Item],

@@ -2,7 +2,7 @@
 ghost use Rattle.std.specs.Prelude.{◌≡◌, ◌+◌, ◌≤◌, refl};
 ghost use Rattle.order.specs.Ranges.{low, high};
 ghost use Rattle.order.specs.Visits.{After};
-ghost use Rattle.kinds.specs.Families.{stands, is_settled, all_stand};
+ghost use Rattle.kinds.specs.Families.{is_settled, all_stand};
 ghost use Rattle.linear.specs.Plus.{plus, corner, stepped, linked, links, links_stand};
 ghost use Rattle.linear.specs.PlusLaws.{plus_lawful};
 
@@ -86,7 +86,7 @@ impl Link {
         (u16::from(of_p.low())..u16::from(of_p.high()) + 2).all(
             |i|
                 requires { i ≤ 256 }
-            { stands(ties, self.tie(k, i)) },
+            { ties.tied(self.tie(k, i)) },
         )
     }
 
@@ -100,19 +100,12 @@ impl Link {
     }
 }
 
-// Whether a tie stands.
-fn stands<T: Standing>(ties: &T, tie: Tie) -> bool
-    ensures { result ≡ stands (T.Standing.stands ties.now) tie }
-{
-    ties.tied(tie.left, tie.right)
-}
-
 // Whether S is settled at k.
 fn is_settled<T: Standing>(ranges: &[Range], s: u16, k: u8, ties: &T) -> bool
     ensures { result ≡ is_settled (T.Standing.stands ties.now) ranges.now s k }
 {
     let [reached, stopped] = Tie::settled(ranges, s, u16::from(k));
-    stands(ties, reached) && stands(ties, stopped)
+    ties.tied(reached) && ties.tied(stopped)
 }
 
 /// A + B is C.
