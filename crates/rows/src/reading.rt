@@ -4,6 +4,7 @@ ghost use Rattle.rows.specs.Rows.{rows_of, items_in, posted};
 
 use crate::storage::Rows;
 use kinds::item::Item;
+use kinds::row::Row;
 
 impl Rows {
     /// How many rows there are.
@@ -32,5 +33,16 @@ impl Rows {
         ensures { result.now ≡ (posted (rows_of self.now) place).items }
     {
         self.lists.at(place)
+    }
+
+    /// The row at a place: its code and its items; code 0 and no items where there is none.
+    pub fn row(&self, place: usize) -> Row<'_>
+        ensures code { result.code ≡ (posted (rows_of self.now) place).code }
+        ensures items { result.items.now ≡ (posted (rows_of self.now) place).items }
+    {
+        Row {
+            code: self.code(place),
+            items: self.items(place),
+        }
     }
 }

@@ -11,7 +11,8 @@ use Rattle.order.specs.declared.range.Range.{Range}
 use Rattle.order.specs.Bounds.{literal, reach, reaches}
 use Rattle.order.specs.Literals.{opposite, same}
 use Rattle.order.specs.Ranges.{low, high}
-use Rattle.order.proofs.Signs.{equal_from_same}
+use Rattle.order.specs.contracts.literal.LiteralPartialEq.TheImpl.{eq-value}
+use Rattle.order.proofs.Signs.{eq_same, equal_from_same}
 use Rattle.ties.specs.Roots.{root_by}
 use Rattle.ties.proofs.Equivalences.{root_by_opposite}
 use Rattle.kinds.specs.declared.item.Item.{Item}
@@ -22,7 +23,7 @@ use Rattle.theory.specs.Rounds.{Still}
 module _ (rs : List Range) (f g : ℕ → Literal) where
   -- whether X(t) has two roots
   abbrev pub parts_at : ℕ → ℕ → Bool
-  parts_at x t = not (same (root_by f (literal rs (reaches x t))) (root_by g (literal rs (reaches x t))))
+  parts_at x t = not (eq-value.it (root_by f (literal rs (reaches x t))) (root_by g (literal rs (reaches x t))))
 
   -- where no threshold of a stretch has
   pub still_between : (x a n : ℕ) → list_any (parts_at x) (range_with_len a n) ≡ false → (t : ℕ) → a ≤ t → t < a + n → Still rs f g (reaches x t)
@@ -31,7 +32,7 @@ module _ (rs : List Range) (f g : ℕ → Literal) where
         | inl e ↦ equal_from_same _ _ e
         | inr e ↦
             let here : get_or (range_with_len a n) (t - a) 0 ≡ t = get_or-range_with_len a n (t - a) 0 (omega arith) ∙ omega arith in
-            absurd (true≢false (sym (list_any_at (parts_at x) (range_with_len a n) (t - a) 0 (omega (arith, length-range_with_len a n)) (ap (parts_at x) here ∙ ap not e)) ∙ none))
+            absurd (true≢false (sym (list_any_at (parts_at x) (range_with_len a n) (t - a) 0 (omega (arith, length-range_with_len a n)) (ap (parts_at x) here ∙ ap not (eq_same (root_by f (literal rs (reaches x t))) (root_by g (literal rs (reaches x t))) ∙ e))) ∙ none))
       ]
 
   module _ (x : ℕ) (each : (t : ℕ) → t < high rs x + 1 → low rs x ≤ t → Still rs f g (reaches x t)) where

@@ -26,6 +26,7 @@ pub enum Left {
 fn go_on(last: Literal, root: Literal) -> Option<Literal>
     ensures { GoesOn result last root }
 {
+    // Kept as it is: a rule of the project needs the match with guards on the root.
     match root {
         Literal::True => None,
         Literal::False => Some(last),

@@ -11,7 +11,7 @@ ghost use Rattle.settle.specs.Tied.{ranges_in, roots_in};
 
 use crate::tied::TiedVariables;
 use kinds::item::Item;
-use kinds::reading::{range_of, variable_at};
+use kinds::reading::range_of;
 use order::bound::Bound;
 use rows::storage::Rows;
 use ties::classes::Ties;
@@ -32,7 +32,9 @@ impl TiedVariables<'_> {
     fn row_moved(&self, items: &[Item], before: &Ties) -> bool
         ensures { result ≡ false → (b : Bound) → names items.now b.variable ≡ true → Still (ranges_in self.now) (root_at (roots_of before.now)) (root_at (roots_in self.now)) b }
     {
-        (0..items.len()).any(|k| self.variable_moved(variable_at(items, k), before))
+        items
+            .iter()
+            .any(|item| self.variable_moved(item.variable(), before))
     }
 
     /// Whether a bit of the part at `place` has another root than before; yes where there is no before.

@@ -46,10 +46,9 @@ impl Part {
         if place < count {
             variables.visit_order(place, &mut self.clauses);
         } else {
-            let code = rows.code(place - count);
-            let items = rows.items(place - count);
-            K::visit_clauses(code, items, variables.ranges(), &mut self.clauses);
-            K::tell_pairings(code, items, variables.ranges(), &mut self.pairings);
+            let row = rows.row(place - count);
+            K::visit_clauses(row, variables.ranges(), &mut self.clauses);
+            K::tell_pairings(row, variables.ranges(), &mut self.pairings);
         }
         self.clauses.taken?;
         self.pairings.taken

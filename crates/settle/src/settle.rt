@@ -16,7 +16,8 @@ use std::alloc::{AllocError, Global};
 use ties::classes::Ties;
 
 /// Makes ties until they are closed, and gives them; none where no set of ties is closed. The ties that it is given
-/// stay as they are. After a first walk over all parts only those are looked at again in which a root has changed.
+/// stay as they are; a bit that has no root among them is tied to nothing at first. After a first walk over all parts
+/// only those are looked at again in which a root has changed.
 pub fn settle<K: Kinds>(
     heap: Global,
     variables: &Variables,

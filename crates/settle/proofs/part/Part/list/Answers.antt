@@ -20,8 +20,8 @@ returns-clause-clauses g c =
           lists_all clause_list _ _ _ _ _ w.visit_order.ensures c.restart.ensures.none (ap (λ (p : Part). p.clauses) w.self-is) (sym (variable_clauses_are m rs ps place lt)) c.in_ok-self.was
       | else-place-count w ↦
           let le : length rs ≤ place = omega (arith, w.if-place-count.false, c.len-count.ensures) in
-          let code_is = w.code-code.ensures ∙ ap (λ n. (posted ps (place - n)).code) c.len-count.ensures in
-          let items-are = w.items-items.ensures ∙ ap (λ n. (posted ps (place - n)).items) c.len-count.ensures in
+          let code_is = w.row-row.ensures.code ∙ ap (λ n. (posted ps (place - n)).code) c.len-count.ensures in
+          let items-are = w.row-row.ensures.items ∙ ap (λ n. (posted ps (place - n)).items) c.len-count.ensures in
           lists_all clause_list _ _ _ _ _ w.visit_clauses.ensures c.restart.ensures.none (ap (λ (p : Part). p.clauses) w.self-is) (read_clauses_are m rs ps place le _ _ _ code_is items-are w.ranges-else-place-count.ensures) c.in_ok-self.was
     ])
 
@@ -38,7 +38,7 @@ returns-clause-pairings g c =
           lists_all pairing_list _ _ c.restart-2.new.self c.restart-2.new.self _ refl c.restart-2.ensures.none (ap (λ (p : Part). p.pairings) w.self-is) (sym (variable_pairings_are m rs ps place lt)) taken
       | else-place-count w ↦
           let le : length rs ≤ place = omega (arith, w.if-place-count.false, c.len-count.ensures) in
-          let code_is = w.code-code.ensures ∙ ap (λ n. (posted ps (place - n)).code) c.len-count.ensures in
-          let items-are = w.items-items.ensures ∙ ap (λ n. (posted ps (place - n)).items) c.len-count.ensures in
+          let code_is = w.row-row.ensures.code ∙ ap (λ n. (posted ps (place - n)).code) c.len-count.ensures in
+          let items-are = w.row-row.ensures.items ∙ ap (λ n. (posted ps (place - n)).items) c.len-count.ensures in
           lists_all pairing_list _ _ _ _ _ w.tell_pairings.ensures c.restart-2.ensures.none (ap (λ (p : Part). p.pairings) w.self-is) (read_pairings_are m rs ps place le _ _ _ code_is items-are w.ranges-else-place-count-2.ensures) taken
     ])
