@@ -1,6 +1,5 @@
 -- The clauses to be written are short and few. Assumes nothing.
 use Rattle.std.proofs.Common.{◌≡◌, ℕ, zero, suc, ◌+◌, ◌*◌, ◌≤◌, Bool, true, false, cond, List, [], ◌∷◌, ◌++◌, length, sym, ap, mul-suc, arith, lit≤, length-append}
-use lib.ListN.{length-map}
 use Rattle.std.specs.List.{AllByRecursion}
 use Rattle.std.proofs.ByRecursion.{All-append, All-weaker}
 use Rattle.order.specs.declared.bound.Bound.{Bound}
@@ -14,8 +13,7 @@ use Rattle.order.specs.Variables.{ranges_of}
 use Rattle.order.proofs.Stretches.{between_more}
 use Rattle.kinds.specs.Meaning.{Meaning, Lawful}
 use Rattle.kinds.proofs.Ranging.{all_between_from, length_between}
-use Rattle.rows.specs.declared.storage.Rows.{Rows}
-use Rattle.rows.specs.Rows.{Posted, row_at, rows_of}
+use Rattle.rows.specs.Rows.{Posted}
 use Rattle.theory.specs.Jobs.{tied_bounds}
 use Rattle.theory.proofs.Stretches.{all_joined}
 use Rattle.calls.specs.Jobs.{Sits, Seated}
@@ -73,11 +71,8 @@ module _ (m : ℕ → Meaning) (law : (code : ℕ) → Lawful (m code)) (rs : Li
   pub clauses_few : (ps : List Posted) → Seated m rs ps → length (clauses_of m rs f ps) ≤ total_bits rs + 131072 * length ps
   clauses_few ps seated = omega (arith, length-append (orders rs) (joined (row_clauses m rs f) ps), orders_few rs (length rs), rows_few ps seated)
 
--- variables have few bits, and there are few rows
+-- variables have few bits
 pub variables_small : (v : Variables) → total_bits (ranges_of v) ≤ 4096
 variables_small v =
     let long : length (ranges_of v) ≡ v.ranges.len = sym v.ranges.ok.0 in
     omega (arith, v.counted, v.small, ap (first (ranges_of v)) long)
-
-pub rows_small : (r : Rows) → length (rows_of r) ≤ 1024
-rows_small r = omega (arith, length-map r.entries.items (row_at r.items.items), r.entries.ok.0, r.few)

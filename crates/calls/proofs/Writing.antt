@@ -17,6 +17,7 @@ use Rattle.ties.specs.Views.{roots_of}
 use Rattle.kinds.specs.Meaning.{Meaning, Lawful as LawfulKind}
 use Rattle.rows.specs.declared.storage.Rows.{Rows}
 use Rattle.rows.specs.Rows.{rows_of}
+use Rattle.rows.proofs.Posting.{rows_small}
 use Rattle.sink.specs.declared.header.Header.{Header}
 use Rattle.sink.specs.declared.lit.Lit.{Lit}
 use Rattle.sink.specs.Sinks.{Costs, State, Lawful, proper_header, proper_clause, takes_header, with_header, takes_clause, with_clause, capped}
@@ -32,7 +33,7 @@ use Rattle.calls.specs.Questions.{Question, ask, first_no, verdict}
 use Rattle.calls.specs.View.{View, free_bits}
 use Rattle.calls.specs.Writes.{clauses_of, written_of, writing}
 use Rattle.calls.proofs.Asking.{all_yes}
-use Rattle.calls.proofs.Clausing.{Short, clauses_short, clauses_few, variables_small, rows_small}
+use Rattle.calls.proofs.Clausing.{Short, clauses_short, clauses_few, variables_small}
 
 -- a file of n variables and the clauses ws that a sink can take
 pub record Proper (n : ℕ) (ws : List (List Lit)) : Type 0 where

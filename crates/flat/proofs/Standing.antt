@@ -1,101 +1,75 @@
--- Spans that end within the items, and the lists that they stand for. Assumes nothing.
-use Rattle.std.proofs.Common.{◌≡◌, ℕ, suc, ◌+◌, ◌-◌, ◌<◌, ◌≤◌, min, List, [], ◌∷◌, ◌++◌, map, length, get_or, take, drop, sym, refl, ap, ◌∙◌, subst, inl, inr, arith}
-use Rattle.std.proofs.lemmas.List.{drop_at, get_or_append_left, get_or-map, get_or_past, get_or_push, length-append, length-drop, length-map, length_push, map_push, take_all, take-append-le}
+-- Spans within the items, and the lists that they stand for. Assumes nothing.
+use Rattle.std.proofs.Common.{◌≡◌, ℕ, ◌+◌, ◌-◌, ◌<◌, ◌≤◌, List, [], ◌∷◌, ◌++◌, map, length, get_or, slice_get, slice_range, Option, Some, None, option_map, Bor, vec_items, vec_len, take, drop, sym, refl, ap, ◌∙◌, subst, arith}
+use Rattle.std.specs.List.{All}
+use Rattle.std.specs.Slice.{IsItemAt}
+use Rattle.std.proofs.lemmas.Option.{slice_get-map, slice_get_past, slice_get_read}
+use Rattle.std.proofs.lemmas.List.{drop_at, get_or-map, length-append, length-map, map_push, take_all, take-append-le}
+use Rattle.std.proofs.lemmas.List.Elements.{All-head, All-push, All-rest, All-same, All-tail, All-weaker}
+use Rattle.std.proofs.lemmas.List.Sums.{sum_by_push}
 use Rattle.std.proofs.lemmas.Slice.{between_is}
-use Rattle.std.proofs.lemmas.Bool.{cases_lt, cases_order}
+use Rattle.flat.specs.declared.lists.Lists.{Lists}
 use Rattle.flat.specs.declared.lists.Span.{Span}
-use Rattle.flat.specs.Spans.{no_span, Within, list_at}
+use Rattle.flat.specs.Spans.{Headed, headed, IsWithin, list_at, items_in}
+use Rattle.flat.specs.Views.{lists_of}
 
--- spans that end within the items
-pub within_none : (n : ℕ) → Within [] n
-within_none n k h = absurd (omega arith)
+module _ {H : Type 0} where
+  -- the first span and the others
+  pub first_within : (n : ℕ) (s : Span H) (others ss : List (Span H)) → ss ≡ s ∷ others → All (IsWithin n) ss → IsWithin n s
+  first_within n s others ss e w = All-head (IsWithin n) s others (All-same (IsWithin n) (s ∷ others) ss (sym e) w)
 
-pub within_rest : (s : Span) (ss : List Span) (n : ℕ) → Within (s ∷ ss) n → Within ss n
-within_rest s ss n w k h = w (suc k) (omega arith)
+  pub others_within : (n : ℕ) (s : Span H) (others ss : List (Span H)) → ss ≡ s ∷ others → All (IsWithin n) ss → All (IsWithin n) others
+  others_within n s others ss e w = All-rest (IsWithin n) s others ss e w
 
-pub within_more : (ss : List Span) (n m : ℕ) → Within ss n → n ≤ m → Within ss m
-within_more ss n m w more k h = omega (arith, w k h)
-
-pub within_push : (ss : List Span) (s : Span) (n m : ℕ) → Within ss n → n ≤ m → s.to ≤ m → Within (ss ++ s ∷ []) m
-within_push ss s n m w more ends k lt =
-    let long = length_push ss s in
-    elim (cases_order k (length ss)) [
-      | inl here ↦ omega (arith, ap (λ (x : Span). x.to) (get_or_push ss s no_span k (sym here)))
-      | inr (inl before) ↦ omega (arith, w k before, ap (λ (x : Span). x.to) (get_or_append_left ss (s ∷ []) no_span k before))
-      | inr (inr after) ↦ absurd (omega arith)
-    ]
-
-module _ {T : Type 0} where
+module _ {H T : Type 0} where
   -- more items behind change no list
-  pub list_longer : (items more : List T) (s : Span) → s.to ≤ length items → list_at (items ++ more) s ≡ list_at items s
+  list_longer : (items more : List T) (s : Span H) → s.to ≤ length items → list_at (items ++ more) s ≡ list_at items s
   list_longer items more s h =
-      between_is (items ++ more) s.«from» s.to ∙ ap (drop s.«from») (take-append-le s.to items more h) ∙ sym (between_is items s.«from» s.to)
+      ap (headed s.head) (between_is (items ++ more) s.«from» s.to ∙ ap (drop s.«from») (take-append-le s.to items more h) ∙ sym (between_is items s.«from» s.to))
 
-  pub lists_longer : (items more : List T) (ss : List Span) → Within ss (length items) → map (list_at (items ++ more)) ss ≡ map (list_at items) ss
+  lists_longer : (items more : List T) (ss : List (Span H)) → All (IsWithin (length items)) ss → map (list_at (items ++ more)) ss ≡ map (list_at items) ss
   lists_longer items more [] w = refl
   lists_longer items more (s ∷ ss) w =
-      let here = list_longer items more s (w 0 (omega arith)) in
-      let rest = lists_longer items more ss (within_rest s ss (length items) w) in
+      let here = list_longer items more s (All-head (IsWithin (length items)) s ss w).1 in
+      let rest = lists_longer items more ss (All-tail (IsWithin (length items)) s ss w) in
       cc
 
-  -- a span at the end, for the items at the end
-  pub list_new : (items more : List T) (s : Span) → s.«from» ≡ length items → s.to ≡ length items + length more → list_at (items ++ more) s ≡ more
-  list_new items more s start end =
-      ap (take (s.to - s.«from»)) (drop_at items more s.«from» (sym start)) ∙ take_all (s.to - s.«from») more (omega arith)
+  -- the list at a place, and its head
+  pub list_found : (items : List T) (ss : List (Span H)) (k : ℕ) (s : Span H) → k < length ss → s ≡ get_or ss k s → slice_range items s.«from» s.to ≡ get_or (map (λ (l : Headed H T). l.items) (map (list_at items) ss)) k []
+  list_found items ss k s lt is =
+      ap (λ (x : Span H). slice_range items x.«from» x.to) is
+      ∙ sym (get_or-map (λ (l : Headed H T). l.items) (map (list_at items) ss) k (list_at items s) [] (omega (arith, length-map ss (list_at {H = H} {T = T} items))) ∙ ap (λ (l : Headed H T). l.items) (get_or-map (list_at items) ss k s (list_at items s) lt))
 
-  pub lists_push : (items more : List T) (ss : List Span) (s : Span) → Within ss (length items) → s.«from» ≡ length items → s.to ≡ length items + length more → map (list_at (items ++ more)) (ss ++ s ∷ []) ≡ map (list_at items) ss ++ more ∷ []
-  lists_push items more ss s w start end =
-      map_push (list_at (items ++ more)) ss s
-      ∙ ap (λ (ls : List (List T)). ls ++ list_at (items ++ more) s ∷ []) (lists_longer items more ss w)
-      ∙ ap (λ (l : List T). map (list_at items) ss ++ l ∷ []) (list_new items more s start end)
+  pub head_found : (items : List T) (ss : List (Span H)) (k : ℕ) (found : Option (Bor (Span H))) (r : Option H) → IsItemAt ss k found → r ≡ option_map (λ (s : Bor (Span H)). s.now.head) found → r ≡ slice_get (map (λ (l : Headed H T). l.head) (map (list_at items) ss)) k
+  head_found items ss k found r at is =
+      rw (slice_get-map, slice_get-map)
+      (elim found as (λ (o : Option (Bor (Span H))). IsItemAt ss k o → r ≡ option_map (λ (s : Bor (Span H)). s.now.head) o → r ≡ option_map (λ (l : Headed H T). l.head) (option_map (list_at items) (slice_get ss k))) [
+        | None ↦ λ a e. rw (slice_get_past ss k a.3) e
+        | Some s ↦ λ a e. rw (slice_get_read ss (length ss) k s.now refl a.3.0 (a.3.1 s.now)) e
+      ] at is)
 
-  -- the items from one place on and before another, by ends inside the list
-  pub part_before_end : (items : List T) (a b : ℕ) → take (min b (length items) - a) (drop a items) ≡ take (b - a) (drop a items)
-  part_before_end items a b =
-      elim (cases_lt b (length items)) [
-        | inl lt ↦ ap (λ n. take (n - a) (drop a items)) (omega arith)
-        | inr le ↦
-            let long = length-drop a items in
-            take_all (min b (length items) - a) (drop a items) (omega arith) ∙ sym (take_all (b - a) (drop a items) (omega arith))
-      ]
+-- a list is added to l: `new` and `more` are the items and the spans after it
+module _ {H T : Type 0} (l : Lists H T) (list new : List T) (more : List (Span H)) (s : Span H) (extends : new ≡ vec_items l.items ++ list) (pushes : more ≡ vec_items l.spans ++ s ∷ []) (start : s.«from» ≡ vec_len l.items) (end : s.to ≡ length new) where
+  long : vec_len l.items ≡ length (vec_items l.items)
+  long = omega (arith, l.items.ok.0)
 
-  pub part_crossed : (items : List T) (a e : ℕ) → e ≤ a → take (e - a) (drop a items) ≡ []
-  part_crossed items a e le = let n : e - a ≡ 0 = omega arith in rw n
+  longer : length new ≡ vec_len l.items + length list
+  longer = ap length extends ∙ length-append (vec_items l.items) list ∙ ap (λ n. n + length list) (sym long)
 
-  pub part_inside : (items : List T) (a b s e : ℕ) → e ≡ min b (length items) → (a < e → s ≡ a) → (e ≤ a → e ≤ s) → take (e - s) (drop s items) ≡ take (b - a) (drop a items)
-  part_inside items a b s e is same crossed =
-      elim (cases_lt a e) [
-        | inl lt ↦ ap (λ i. take (e - i) (drop i items)) (same lt)
-        | inr le ↦ part_crossed items s e (crossed le) ∙ sym (part_crossed items a e le)
-      ]
-      ∙ ap (λ n. take (n - a) (drop a items)) is
-      ∙ part_before_end items a b
+  within : All (IsWithin (length (vec_items l.items))) (vec_items l.spans)
+  within = subst (λ n. All (IsWithin n) (vec_items l.spans)) long l.within
 
-  -- the list at a place, and past the last
-  pub at_place : (items : List T) (ss seen : List Span) (k : ℕ) (s : Span) → seen ≡ ss → k < length seen → s ≡ get_or seen k s → list_at items s ≡ get_or (map (list_at items) ss) k []
-  at_place items ss seen k s same h is =
-      ap (list_at items) (is ∙ ap (λ (xs : List Span). get_or xs k s) same)
-      ∙ sym (get_or-map (list_at items) ss k s _ (omega (arith, ap length same)))
+  pub added_within : (n : ℕ) → n ≡ length new → All (IsWithin n) more
+  added_within n same =
+      rw pushes
+      (All-push (IsWithin n) (vec_items l.spans) s (All-weaker (IsWithin (vec_len l.items)) (IsWithin n) (λ x h. (h.0, omega (arith, longer))) (vec_items l.spans) l.within) (omega (arith, longer), omega arith))
 
-  pub past_end : (items : List T) (ss seen : List Span) (k : ℕ) → seen ≡ ss → length seen ≤ k → [] ≡ get_or (map (list_at items) ss) k []
-  past_end items ss seen k same h =
-      sym (get_or_past (map (list_at items) ss) k _ (omega (arith, ap length same, length-map ss (list_at items))))
-
--- a list is added: `items` and `spans` before, `new` and `more-spans` after
-module _ {T : Type 0} (items list new : List T) (spans kept more-spans : List Span) (s : Span) (extends : new ≡ items ++ list) (same : kept ≡ spans) (pushes : more-spans ≡ kept ++ s ∷ []) (inside : Within spans (length items)) (start : s.«from» ≡ length items) (end : s.to ≡ length new) where
-  longer : length new ≡ length items + length list
-  longer = ap length extends ∙ length-append items list
-
-  spans_then : more-spans ≡ spans ++ s ∷ []
-  spans_then = pushes ∙ ap (λ (ss : List Span). ss ++ s ∷ []) same
-
-  pub added_within : (n : ℕ) → n ≡ length new → Within more-spans n
-  added_within n long =
-      subst (λ (ss : List Span). Within ss n) (sym spans_then)
-      (within_push spans s (length items) n inside (omega (arith, longer)) (omega arith))
-
-  pub added_lists : map (list_at new) more-spans ≡ map (list_at items) spans ++ list ∷ []
+  pub added_lists : map (list_at new) more ≡ lists_of l ++ headed s.head list ∷ []
   added_lists =
-      ap (λ (is : List T). map (list_at is) more-spans) extends
-      ∙ ap (map (list_at (items ++ list))) spans_then
-      ∙ lists_push items list spans s inside start (omega (arith, longer))
+      rw (extends, pushes)
+      (map_push (list_at (vec_items l.items ++ list)) (vec_items l.spans) s
+      ∙ ap (λ (ls : List (Headed H T)). ls ++ list_at (vec_items l.items ++ list) s ∷ []) (lists_longer (vec_items l.items) list (vec_items l.spans) within)
+      ∙ ap (λ (x : List T). lists_of l ++ headed s.head x ∷ []) (ap (take (s.to - s.«from»)) (drop_at (vec_items l.items) list s.«from» (omega (arith, long))) ∙ take_all (s.to - s.«from») list (omega (arith, longer))))
+
+  pub added_counted : (n : ℕ) → n ≡ length new → n ≡ items_in (map (list_at new) more)
+  added_counted n same =
+      omega (arith, longer, l.counted, ap (items_in {H = H} {T = T}) added_lists, sum_by_push (λ (k : Headed H T). length k.items) (lists_of l) (headed s.head list))

@@ -1,9 +1,10 @@
 -- The rows of a job, and one more of them. Assumes nothing.
-use Rattle.std.specs.Prelude.{◌≡◌, ℕ, ◌+◌, ◌-◌, ◌≤◌, Bool, true, false, List, [], ◌∷◌, ◌++◌, map, length, take, drop, Ok, Err, vec_items, vec_len, vec_capacity, Result, nat_le, slice_index_or}
+use Rattle.std.specs.Prelude.{◌≡◌, ℕ, ◌+◌, Bool, true, false, List, [], ◌∷◌, ◌++◌, map, length, Ok, Err, Result, nat_le, slice_index_or}
+use Rattle.flat.specs.Spans.{Headed}
+use Rattle.flat.specs.Views.{lists_of, Spare as SpareLists, Keeps as KeepsLists}
 use Rattle.kinds.specs.declared.item.Item.{Item}
 use Rattle.rows.specs.declared.adding.RowsError.{RowsError}
 use Rattle.rows.specs.declared.adding.RowsError.TheVariants.{TooManyRows, TooManyItems, NoMemory}
-use Rattle.rows.specs.declared.storage.Entry.{Entry}
 use Rattle.rows.specs.declared.storage.Rows.{Rows}
 
 -- a row: a code and its items
@@ -11,13 +12,13 @@ pub record Posted : Type 0 where
   pub code : ℕ
   pub items : List Item
 
--- the row that an entry stands for
-abbrev pub row_at : List Item → Entry → Posted
-row_at items e = record { code = e.code; items = take (e.to - e.«from») (drop e.«from» items) }
+-- the row that a list of items is, with its code as the head
+abbrev pub row_of : Headed ℕ Item → Posted
+row_of l = record { code = l.head; items = l.items }
 
 -- the rows, in the order of posting
 abbrev pub rows_of : Rows → List Posted
-rows_of r = map (row_at (vec_items r.items)) (vec_items r.entries)
+rows_of r = map row_of (lists_of r.lists)
 
 -- the row at a place; one with no items where there is none
 abbrev pub posted : List Posted → ℕ → Posted
@@ -45,11 +46,11 @@ Adds rs code items (Err NoMemory) rs' = (few_rows rs 1 ≡ true) × (few_items r
 
 -- there is memory for n rows with m items more
 abbrev pub Spare : Rows → ℕ → ℕ → Type 0
-Spare r n m = (vec_len r.entries + n ≤ vec_capacity r.entries) × (vec_len r.items + m ≤ vec_capacity r.items)
+Spare r n m = SpareLists r.lists n m
 
 -- no memory was given back
 abbrev pub Keeps : Rows → Rows → Type 0
-Keeps r r' = (vec_capacity r.entries ≤ vec_capacity r'.entries) × (vec_capacity r.items ≤ vec_capacity r'.items)
+Keeps r r' = KeepsLists r.lists r'.lists
 
 -- an answer that does not speak of memory
 abbrev pub answered : Result ℕ RowsError → Bool

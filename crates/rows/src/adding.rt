@@ -2,7 +2,8 @@
 ghost use Rattle.std.specs.Prelude.{◌≡◌, true, [], length, MatchResult};
 ghost use Rattle.rows.specs.Rows.{rows_of, Adds, Spare, Keeps, answered};
 
-use crate::storage::{Entry, Rows};
+use crate::storage::Rows;
+use flat::lists::Lists;
 use kinds::item::Item;
 use std::alloc::{AllocError, Global};
 
@@ -18,14 +19,23 @@ pub enum RowsError {
     NoMemory,
 }
 
+impl From<AllocError> for RowsError {
+    ghost use Rattle.rows.specs.declared.adding.RowsError.TheVariants.{NoMemory};
+
+    ghost from_gives = { λ _ e. e ≡ NoMemory };
+
+    fn from(_: AllocError) -> RowsError {
+        RowsError::NoMemory
+    }
+}
+
 impl Rows {
     /// No rows.
     pub fn new(heap: Global) -> Rows
         ensures { rows_of result ≡ [] }
     {
         Rows {
-            entries: Vec::new(heap),
-            items: Vec::new(heap),
+            lists: Lists::new(heap),
         }
     }
 
@@ -35,9 +45,7 @@ impl Rows {
         ensures room { MatchResult result (λ _. Spare self.new rows items) (λ _. (Spare self.old rows items → ⊥)) }
         ensures kept { Keeps self.old self.new }
     {
-        self.entries.reserve(rows)?;
-        self.items.reserve(items)?;
-        Ok(())
+        self.lists.reserve(rows, items)
     }
 
     /// Adds a row, and answers its place.
@@ -46,22 +54,14 @@ impl Rows {
         ensures spare { Spare self.old 1 (length items.now) → answered result ≡ true }
         ensures kept { Keeps self.old self.new }
     {
-        let place = self.entries.len();
-        let from = self.items.len();
+        let place = self.lists.len();
         if place >= MOST_ROWS {
             return Err(RowsError::TooManyRows);
         }
-        if items.len() > MOST_ITEMS - from {
+        if items.len() > MOST_ITEMS - self.lists.items_in_all() {
             return Err(RowsError::TooManyItems);
         }
-        if self.reserve(1, items.len()).is_err() || self.items.extend_from_slice(items).is_err() {
-            return Err(RowsError::NoMemory);
-        }
-        self.entries.push_reserved(Entry {
-            code,
-            from: from as u16,
-            to: self.items.len() as u16,
-        });
+        self.lists.push(code, items)?;
         Ok(place)
     }
 }

@@ -1,9 +1,11 @@
 -- A tie that a clause forces keeps ties sound. Assumes nothing.
-use Rattle.std.proofs.Common.{◌≡◌, Bool, true, false, ◌&&◌, List, [], ◌∷◌, length, sym, refl, ◌∙◌, subst, inl, inr, true≢false, arith}
+use Rattle.std.proofs.Common.{◌≡◌, ℕ, ◌≤◌, Bool, true, false, ◌&&◌, List, [], ◌∷◌, length, sym, refl, ◌∙◌, subst, inl, inr, true≢false, arith}
 use Rattle.std.specs.List.{ContainsAt}
+use Rattle.std.proofs.lemmas.Bool.{and_from, and_parts}
+use Rattle.std.proofs.lemmas.Bool.Decides.{nat_tests}
 use Rattle.order.specs.declared.bound.Bound.{Bound}
 use Rattle.order.specs.declared.literal.Literal.{Literal}
-use Rattle.order.specs.declared.literal.Literal.TheVariants.{True}
+use Rattle.order.specs.declared.literal.Literal.TheVariants.{False, True, Bit, Not}
 use Rattle.order.specs.declared.range.Range.{Range}
 use Rattle.order.specs.Ranges.{total_bits}
 use Rattle.ties.specs.declared.classes.Ties.{Ties}
@@ -47,13 +49,23 @@ tying_made t u a b h = (
   h.least,
 )
 
+-- what is there among some bits is there among more
+there_more : (m n : ℕ) (l : Literal) → m ≤ n → there m l ≡ true → there n l ≡ true
+there_more m n False h e = refl
+there_more m n True h e = refl
+there_more m n (Bit k) h e = grind (arith, nat_tests)
+there_more m n (Not k) h e = grind (arith, nat_tests)
+
+pub both_there : (m n : ℕ) (a b : Literal) → m ≤ n → there m a ≡ true → there m b ≡ true → (there n a && there n b) ≡ true
+both_there m n a b h p q = and_from (there n a) (there n b) (there_more m n a h p) (there_more m n b h q)
+
 -- a clause that leaves nothing
 pub heeds_nothing : (rs : List Range) (c : List Bound) (os : List Literal) → reduced rs (root_at os) c ≡ [] ∷ [] → Heeded false rs c os []
 heeds_nothing rs c os none j e has sound =
     (settles j).refused (tied (root_at os)) sound ((settles j).empty (root_at os) c has (subst (λ r. reduced r (root_at os) c ≡ [] ∷ []) (sym e) none))
 
 -- a clause that leaves one literal
-module _ (rs : List Range) (c : List Bound) (t : Ties) (ns : List Literal) (u : Literal) (long : length (roots_of t) ≡ total_bits rs) (one : reduced rs (root_at (roots_of t)) c ≡ (u ∷ []) ∷ []) where
+module _ (rs : List Range) (c : List Bound) (t : Ties) (ns : List Literal) (u : Literal) (long : total_bits rs ≤ length (roots_of t)) (one : reduced rs (root_at (roots_of t)) c ≡ (u ∷ []) ∷ []) where
   abbrev os : List Literal
   os = roots_of t
 
@@ -61,7 +73,9 @@ module _ (rs : List Range) (c : List Bound) (t : Ties) (ns : List Literal) (u : 
   forced j e has = (settles j).unit (root_at os) t.fixed c has u (subst (λ r. reduced r (root_at os) c ≡ (u ∷ []) ∷ []) (sym e) one)
 
   there_one : (there (length os) u && there (length os) True) ≡ true
-  there_one = kept_there rs (root_at os) t.named c (u ∷ []) (length os) long one
+  there_one =
+      both_there (total_bits rs) (length os) u True long
+      (and_parts (there (total_bits rs) u) true (kept_there rs (root_at os) t.named c (u ∷ []) (total_bits rs) refl one)).0 refl
 
   pub heeds_one : (r : Bool) → Tying r os u True ns → Heeded r rs c os ns
   heeds_one true h = (

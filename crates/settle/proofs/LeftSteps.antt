@@ -1,45 +1,66 @@
--- Steps of a pass over a clause of roots. Assumes nothing.
-use Rattle.std.proofs.Common.{◌≡◌, ℕ, zero, suc, ◌+◌, ◌<◌, ◌≤◌, true, false, ◌⊎◌, List, [], ◌∷◌, ◌++◌, length, get_or, take, drop, sym, refl, ap, ◌∙◌, subst, arith}
+-- Steps of a pass over a clause, of which l is left before place i. Assumes nothing.
+use Rattle.std.proofs.Common.{◌≡◌, ℕ, zero, suc, ◌+◌, ◌<◌, ◌≤◌, List, [], ◌∷◌, ◌++◌, length, get_or, take, drop, Some, None, sym, refl, ap, ◌∙◌, subst, inl, inr, arith}
 use Rattle.std.proofs.lemmas.List.{take_all, take_more}
+use Rattle.order.specs.declared.bound.Bound.{Bound}
 use Rattle.order.specs.declared.literal.Literal.{Literal}
-use Rattle.order.specs.declared.literal.Literal.TheVariants.{False, True}
-use Rattle.order.specs.Literals.{same}
+use Rattle.order.specs.declared.literal.Literal.TheVariants.{False}
+use Rattle.order.specs.declared.range.Range.{Range}
+use Rattle.order.specs.Bounds.{literal}
+use Rattle.order.proofs.Signs.{same_from_equal, same_tells}
+use Rattle.ties.specs.Roots.{root_by}
+use Rattle.cnf.specs.Numbered.{rooted}
 use Rattle.cnf.specs.Reduced.{written}
+use Rattle.cnf.proofs.Rooting.{length_rooted, rooted_at}
+use Rattle.theory.specs.Jobs.{reduced}
 use Rattle.theory.specs.Steps.{Long}
 use Rattle.theory.proofs.Leaving.{Leaving, leaving_same, leaving_first, enough_true, enough_two, leaves_nothing, leaves_one}
+use Rattle.settle.specs.GoesOn.{GoesOn}
 
 cut : (c : List Literal) (i : ℕ) (d : Literal) → i < length c → c ≡ take i c ++ get_or c i d ∷ drop (suc i) c
 cut [] i d h = absurd (omega arith)
 cut (l ∷ c) zero d h = refl
 cut (l ∷ c) (suc i) d h = ap (λ x. l ∷ x) (cut c i d (omega arith))
 
--- the literal m at place i of a clause, of which l is left before it
-module _ (c : List Literal) (i : ℕ) (l m d : Literal) (here : m ≡ get_or c i d) (lt : i < length c) where
-  apart : c ≡ take i c ++ m ∷ drop (suc i) c
-  apart = cut c i d lt ∙ ap (λ x. take i c ++ x ∷ drop (suc i) c) (sym here)
+module _ (rs : List Range) (f : ℕ → Literal) (c : List Bound) (i : ℕ) (l : Literal) (left : Leaving (take i (rooted rs f c)) l) where
+  abbrev roots : List Literal
+  roots = rooted rs f c
 
-  more : take (i + 1) c ≡ take i c ++ m ∷ []
-  more = take_more c i d lt ∙ ap (λ x. take i c ++ x ∷ []) (sym here)
+  -- the root m of the bound at place i
+  module _ (b : Bound) (m : Literal) (lt : i < length c) (is : m ≡ root_by f (literal rs (get_or c i b))) where
+    inside : i < length roots
+    inside = omega (arith, length_rooted rs f c)
 
-  pub step_same : Leaving (take i c) l → (m ≡ False) ⊎ (m ≡ l) → Leaving (take (i + 1) c) l
-  step_same h e = subst (λ x. Leaving x l) (sym more) (leaving_same (take i c) l m h e)
+    here : m ≡ get_or roots i False
+    here = rooted_at rs f c i b False _ m lt refl is
 
-  pub step_first : Leaving (take i c) l → l ≡ False → same m True ≡ false → Leaving (take (i + 1) c) m
-  step_first h e n = subst (λ x. Leaving x m) (sym more) (leaving_first (take i c) l m h e n)
+    apart : roots ≡ take i roots ++ m ∷ drop (suc i) roots
+    apart = cut roots i False inside ∙ ap (λ x. take i roots ++ x ∷ drop (suc i) roots) (sym here)
 
-  pub stop_true : m ≡ True → Long (written c)
-  stop_true e = subst (λ x. Long (written x)) (sym apart) (enough_true (take i c) (drop (suc i) c) m e)
+    more : take (i + 1) roots ≡ take i roots ++ m ∷ []
+    more = take_more roots i False inside ∙ ap (λ x. take i roots ++ x ∷ []) (sym here)
 
-  pub stop_two : Leaving (take i c) l → same l False ≡ false → same m False ≡ false → same m l ≡ false → Long (written c)
-  stop_two h p q n = subst (λ x. Long (written x)) (sym apart) (enough_two (take i c) (drop (suc i) c) l m h p q n)
+    pub goes_on : (k : Literal) → GoesOn (Some k) l m → Leaving (take (i + 1) roots) k
+    goes_on k h = elim h [
+      | inl e ↦ rw (more, e.0) (leaving_same (take i roots) l m left e.1)
+      | inr e ↦ rw (more, e.0) (leaving_first (take i roots) l m left e.1 e.2)
+    ]
 
--- the pass is over
-module _ (c : List Literal) (i : ℕ) (l : Literal) (h : Leaving (take i c) l) (end : length c ≤ i) where
-  whole : Leaving c l
-  whole = subst (λ x. Leaving x l) (take_all i c end) h
+    pub is_enough : GoesOn None l m → Long (reduced rs f c)
+    is_enough h = elim h [
+      | inl e ↦ subst (λ x. Long (written x)) (sym apart) (enough_true (take i roots) (drop (suc i) roots) m e)
+      | inr e ↦ subst (λ x. Long (written x)) (sym apart) (enough_two (take i roots) (drop (suc i) roots) l m left e.0 e.1 e.2)
+    ]
 
-  pub end_nothing : same l False ≡ true → written c ≡ [] ∷ []
-  end_nothing e = leaves_nothing c l whole e
+  -- the pass is over
+  module _ (end : length c ≤ i) where
+    whole : Leaving roots l
+    whole = subst (λ x. Leaving x l) (take_all i roots (omega (arith, length_rooted rs f c))) left
 
-  pub end_one : same l False ≡ false → written c ≡ (l ∷ []) ∷ []
-  end_one e = leaves_one c l whole e
+    pub nothing_left : l ≡ False → reduced rs f c ≡ [] ∷ []
+    nothing_left e = leaves_nothing roots l whole (same_from_equal l False e)
+
+    pub one_left : (l ≡ False → ⊥) → reduced rs f c ≡ (l ∷ []) ∷ []
+    one_left n = elim (same_tells l False) [
+      | inl e ↦ absurd (n e.1)
+      | inr e ↦ leaves_one roots l whole e.0
+    ]

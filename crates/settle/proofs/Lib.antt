@@ -2,8 +2,9 @@ pub mod Following
 pub mod Going
 pub mod Heeding
 pub mod LeftSteps
-pub mod ListSteps
 pub mod Moving
 pub mod PartLists
 pub mod PartsOf
+pub mod PartTurns
+pub mod SameRoots
 pub mod Settled

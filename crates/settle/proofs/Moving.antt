@@ -1,6 +1,9 @@
 -- Bounds of a variable, of a row or of a part keep their roots where those at its thresholds do. Assumes nothing.
-use Rattle.std.proofs.Common.{◌≡◌, ℕ, suc, ◌+◌, ◌<◌, ◌≤◌, Bool, true, false, not, ltb, leb, List, [], ◌∷◌, length, sym, ap, ◌∙◌, subst, inl, inr, arith}
-use Rattle.std.proofs.lemmas.Bool.{cases_lt, cond-true, cond-false, cond_both, le-leb, lt-leb, lt-ltb, or_cases, eqb-true, not-false, false≢true}
+use Rattle.std.proofs.Common.{◌≡◌, ℕ, suc, ◌+◌, ◌-◌, ◌<◌, ◌≤◌, Bool, true, false, not, ltb, leb, List, [], ◌∷◌, length, get_or, sym, ap, ◌∙◌, subst, inl, inr, true≢false, arith}
+use Rattle.std.specs.List.{list_any, range_with_len}
+use Rattle.std.proofs.lemmas.Bool.{cases_lt, cond-true, cond-false, cond_both, le-leb, lt-leb, lt-ltb, or_cases, eqb-true, cases_Bool, false≢true}
+use Rattle.std.proofs.lemmas.List.Folds.{list_any_at}
+use Rattle.std.proofs.lemmas.List.FromFn.{get_or-range_with_len, length-range_with_len}
 use Rattle.order.specs.declared.bound.Bound.{Bound}
 use Rattle.order.specs.declared.literal.Literal.{Literal}
 use Rattle.order.specs.declared.literal.Literal.TheVariants.{False, True}
@@ -8,7 +11,8 @@ use Rattle.order.specs.declared.range.Range.{Range}
 use Rattle.order.specs.Bounds.{literal, reach, reaches}
 use Rattle.order.specs.Literals.{opposite, same}
 use Rattle.order.specs.Ranges.{low, high}
-use Rattle.order.proofs.Signs.{equal_from_same}
+use Rattle.order.specs.contracts.literal.LiteralPartialEq.TheImpl.{eq-value}
+use Rattle.order.proofs.Signs.{eq_same, equal_from_same}
 use Rattle.ties.specs.Roots.{root_by}
 use Rattle.ties.proofs.Equivalences.{root_by_opposite}
 use Rattle.kinds.specs.declared.item.Item.{Item}
@@ -17,11 +21,19 @@ use Rattle.kinds.proofs.Rows.{range_ordered}
 use Rattle.theory.specs.Rounds.{Still}
 
 module _ (rs : List Range) (f g : ℕ → Literal) where
-  -- a bound whose roots were compared
-  pub still_compared : (b : Bound) (l p q : Literal) (t : Bool) → l ≡ literal rs b → p ≡ root_by f l → q ≡ root_by g l → t ≡ same p q → false ≡ not t → Still rs f g b
-  still_compared b l p q t l-is p-is q-is t-is alike =
-      let e : p ≡ q = equal_from_same p q (sym t-is ∙ not-false t (sym alike)) in
-      cc
+  -- whether X(t) has two roots
+  abbrev pub parts_at : ℕ → ℕ → Bool
+  parts_at x t = not (eq-value.it (root_by f (literal rs (reaches x t))) (root_by g (literal rs (reaches x t))))
+
+  -- where no threshold of a stretch has
+  pub still_between : (x a n : ℕ) → list_any (parts_at x) (range_with_len a n) ≡ false → (t : ℕ) → a ≤ t → t < a + n → Still rs f g (reaches x t)
+  still_between x a n none t le lt =
+      elim (cases_Bool (same (root_by f (literal rs (reaches x t))) (root_by g (literal rs (reaches x t))))) [
+        | inl e ↦ equal_from_same _ _ e
+        | inr e ↦
+            let here : get_or (range_with_len a n) (t - a) 0 ≡ t = get_or-range_with_len a n (t - a) 0 (omega arith) ∙ omega arith in
+            absurd (true≢false (sym (list_any_at (parts_at x) (range_with_len a n) (t - a) 0 (omega (arith, length-range_with_len a n)) (ap (parts_at x) here ∙ ap not (eq_same (root_by f (literal rs (reaches x t))) (root_by g (literal rs (reaches x t))) ∙ e))) ∙ none))
+      ]
 
   module _ (x : ℕ) (each : (t : ℕ) → t < high rs x + 1 → low rs x ≤ t → Still rs f g (reaches x t)) where
     still_reach : (t : ℕ) → Still rs f g (reaches x t)

@@ -3,4 +3,5 @@ pub mod Leaves
 pub mod Listed
 pub mod Moves
 pub mod Parts
+pub mod Tied
 pub mod Walks

@@ -1,12 +1,14 @@
 -- What making a forced tie comes to. Assumes nothing.
 use Rattle.std.specs.Prelude.{◌≡◌, ◌≤◌, Bool, true, false, ◌&&◌, ◌⊎◌, List, length}
-use Rattle.std.specs.List.{ContainsAt}
+use Rattle.std.specs.List.{ContainsAt, list_all}
 use Rattle.order.specs.declared.bound.Bound.{Bound}
 use Rattle.order.specs.declared.literal.Literal.{Literal}
 use Rattle.order.specs.declared.range.Range.{Range}
+use Rattle.order.specs.Bounds.{literal}
 use Rattle.order.specs.Literals.{opposite}
-use Rattle.ties.specs.Relations.{Least}
+use Rattle.ties.specs.Relations.{Relation, Least}
 use Rattle.ties.specs.Roots.{tied, root_at, free, there}
+use Rattle.kinds.specs.declared.item.Tie.{Tie}
 use Rattle.kinds.specs.Items.{Pairing}
 use Rattle.theory.specs.Jobs.{Job, clauses, pairings}
 use Rattle.theory.specs.Closed.{Sound, Refused}
@@ -28,6 +30,10 @@ Tying false os a b rs = (tied (root_at os) a (opposite b) ≡ true) ⊎ ((there 
 abbrev pub Heeded : Bool → List Range → List Bound → List Literal → List Literal → Type 0
 Heeded true rs c os ns = Further os ns × Seen rs (root_at os) (root_at ns) c × ((j : Job) → j.ranges ≡ rs → ContainsAt (clauses j) c → Sound j (tied (root_at os)) → Sound j (tied (root_at ns)))
 Heeded false rs c os ns = (j : Job) → j.ranges ≡ rs → ContainsAt (clauses j) c → Sound j (tied (root_at os)) → Refused j
+
+-- whether each of some ties stands
+abbrev pub all_stand : List Range → Relation → List Tie → Bool
+all_stand rs R ts = list_all (λ (t : Tie). R (literal rs t.left) (literal rs t.right)) ts
 
 -- a pairing was looked at, in the same way
 abbrev pub Followed : Bool → List Range → Pairing → List Literal → List Literal → Type 0

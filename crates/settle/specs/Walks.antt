@@ -1,27 +1,19 @@
 -- What a walk over the parts of a job comes to. Assumes nothing.
-use Rattle.std.specs.Prelude.{◌≡◌, ℕ, ◌+◌, ◌<◌, Bool, true, false, List, map, length, Some, None, vec_items, Option}
+use Rattle.std.specs.Prelude.{ℕ, ◌+◌, ◌<◌, Bool, true, false, List, length, Some, None, Option}
 use Rattle.std.specs.List.{AllByRecursion}
 use Rattle.order.specs.declared.literal.Literal.{Literal}
 use Rattle.order.specs.declared.range.Range.{Range}
 use Rattle.ties.specs.declared.classes.Ties.{Ties}
 use Rattle.ties.specs.Roots.{tied, root_at}
 use Rattle.ties.specs.Views.{roots_of}
-use Rattle.kinds.specs.Items.{Pairing}
 use Rattle.kinds.specs.Meaning.{Meaning}
-use Rattle.flat.specs.Views.{lists_of}
 use Rattle.rows.specs.Rows.{Posted}
 use Rattle.theory.specs.Jobs.{Job}
 use Rattle.theory.specs.Closed.{Closed, Sound, Refused}
 use Rattle.theory.specs.Rounds.{Seen, Heard, Onward}
 use Rattle.calls.specs.Jobs.{job_of}
-use Rattle.settle.specs.declared.listing.Pairings.{Pairings}
 use Rattle.settle.specs.Moves.{Further}
 use Rattle.settle.specs.Parts.{part_clauses, part_pairings}
-
--- the listed premises and ties are these pairings
-pub record HoldsPairings (s : Pairings) (ps : List Pairing) : Type 0 where
-  pub premises : lists_of s.premises ≡ map (λ (p : Pairing). p.premise) ps
-  pub gives : vec_items s.gives ≡ map (λ (p : Pairing). p.gives) ps
 
 -- the part at place k was seen between the roots os and ns
 pub record PartSeen (m : ℕ → Meaning) (rs : List Range) (ps : List Posted) (os ns : List Literal) (k : ℕ) : Type 0 where

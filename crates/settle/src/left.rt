@@ -1,17 +1,16 @@
 //! What is left of a clause under ties.
-ghost use Rattle.order.specs.Variables.{ranges_of};
 ghost use Rattle.ties.specs.Roots.{root_at};
-ghost use Rattle.ties.specs.Views.{roots_of};
 ghost use Rattle.theory.specs.Jobs.{reduced};
-ghost use Rattle.settle.specs.Leaves.{Leaves};
 ghost use Rattle.settle.specs.GoesOn.{GoesOn};
+ghost use Rattle.settle.specs.Leaves.{Leaves};
+ghost use Rattle.settle.specs.Tied.{ranges_in, roots_in};
 
+use crate::tied::TiedVariables;
 use order::bound::Bound;
 use order::literal::Literal;
-use order::variables::Variables;
-use ties::classes::Ties;
 
 /// What is left of a clause when false and repeats are struck out.
+// Kept as it is: the new form is no plainer: an option of an option does not say which `None` is the true clause.
 #[derive(Clone, Copy)]
 pub enum Left {
     /// Two literals or more, or the clause is true whatever else is tied.
@@ -22,42 +21,36 @@ pub enum Left {
     One(Literal),
 }
 
-// What a further root does to what is left so far: `last`, which is false where there is nothing.
-#[derive(Clone, Copy)]
-enum Further {
-    Enough,
-    Same,
-    First,
-}
-
-fn go_on(last: Literal, root: Literal) -> Further
+// What is left with a further root, where `last` was left, which is false where there was nothing. None where two
+// literals are left, or the clause is true.
+fn go_on(last: Literal, root: Literal) -> Option<Literal>
     ensures { GoesOn result last root }
 {
+    // Kept as it is: a rule of the project needs the match with guards on the root.
     match root {
-        Literal::True => Further::Enough,
-        Literal::False => Further::Same,
-        l if l == last => Further::Same,
-        _ if last == Literal::False => Further::First,
-        _ => Further::Enough,
+        Literal::True => None,
+        Literal::False => Some(last),
+        l if l == last => Some(last),
+        _ if last == Literal::False => Some(root),
+        _ => None,
     }
 }
 
-/// What is left of a clause of bounds under the ties.
-pub fn left_of(variables: &Variables, ties: &Ties, clause: &[Bound]) -> Left
-    ensures { Leaves result (reduced (ranges_of variables.now) (root_at (roots_of ties.now)) clause.now) }
-{
-    let mut last = Literal::False;
-    for bound in clause {
-        let root = ties.root(variables.literal(*bound));
-        match go_on(last, root) {
-            Further::Enough => return Left::Enough,
-            Further::Same => {}
-            Further::First => last = root,
+impl TiedVariables<'_> {
+    /// What is left of a clause of bounds under the ties.
+    pub fn left_of(&self, clause: &[Bound]) -> Left
+        ensures { Leaves result (reduced (ranges_in self.now) (root_at (roots_in self.now)) clause.now) }
+    {
+        let mut last = Literal::False;
+        for bound in clause {
+            let Some(further) = go_on(last, self.root(*bound)) else {
+                return Left::Enough;
+            };
+            last = further;
         }
-    }
-    if last == Literal::False {
-        Left::Nothing
-    } else {
-        Left::One(last)
+        match last {
+            Literal::False => Left::Nothing,
+            one => Left::One(one),
+        }
     }
 }

@@ -6,5 +6,7 @@ pub mod heed;
 pub mod left;
 pub mod listing;
 mod moved;
+mod part;
 pub mod settle;
+pub mod tied;
 mod walk;

@@ -1,111 +1,63 @@
-//! Clauses and pairings of one part at a time, listed in memory that is used again.
-ghost use Rattle.std.specs.Prelude.{◌≡◌, false, [], length, slice_index_or};
+//! Lists of one part at a time, in memory that is used again.
+ghost use Rattle.std.specs.Prelude.{◌≡◌, []};
 ghost use Rattle.flat.specs.Views.{lists_of};
-ghost use Rattle.settle.specs.Listed.{Listed, Told, no_tie};
+ghost use Rattle.settle.specs.Listed.{Takes, Listed, Told};
 
 use flat::lists::Lists;
 use kinds::item::Tie;
 use kinds::listen::Listener;
 use order::bound::Bound;
 use order::visit::Visitor;
-use std::alloc::Global;
+use std::alloc::{AllocError, Global};
 
-/// The clauses that it was shown, unless memory was lacking.
+/// The lists that it was shown, and whether memory was found for all of them. The memory stays for the next lists:
+/// a visitor of clauses keeps each as a list, and a listener each pairing as its premise, headed by the tie that it gives.
 #[derive(Drop)]
-pub struct Clauses {
-    pub(crate) lists: Lists<Bound>,
-    pub(crate) lacking: bool,
+pub struct Listing<H, T> {
+    pub(crate) lists: Lists<H, T>,
+    pub(crate) taken: Result<(), AllocError>,
 }
 
-impl Clauses {
-    /// No clauses.
-    pub(crate) fn new(heap: Global) -> Clauses {
-        Clauses {
+impl<H: Copy, T: Copy> Listing<H, T> {
+    /// No lists.
+    pub(crate) fn new(heap: Global) -> Listing<H, T> {
+        Listing {
             lists: Lists::new(heap),
-            lacking: false,
+            taken: Ok(()),
         }
     }
 
-    /// Lets all clauses go.
+    /// Lets all lists go.
     pub(crate) fn restart(&mut self)
         ensures none { lists_of self.new.lists ≡ [] }
-        ensures lacking { self.new.lacking ≡ false }
+        ensures taken { self.new.taken ≡ Ok tt }
     {
         self.lists.clear();
-        self.lacking = false;
+        self.taken = Ok(());
+    }
+
+    // Takes a list more, unless memory was lacking before.
+    fn take(&mut self, head: H, list: &[T])
+        ensures { Takes self.old head list.now self.new }
+    {
+        if self.taken.is_ok() {
+            self.taken = self.lists.push(head, list);
+        }
     }
 }
 
-impl Visitor for Clauses {
+impl Visitor for Listing<(), Bound> {
     ghost step = { Listed };
 
     fn visit(&mut self, clause: &[Bound]) {
-        if self.lists.push(clause).is_err() {
-            self.lacking = true;
-        }
+        self.take((), clause);
     }
 }
 
-/// The pairings that it was shown, unless memory was lacking.
-#[derive(Drop)]
-pub struct Pairings {
-    pub(crate) premises: Lists<Tie>,
-    pub(crate) gives: Vec<Tie>,
-    pub(crate) lacking: bool,
-}
-
-impl Pairings {
-    /// No pairings.
-    pub(crate) fn new(heap: Global) -> Pairings {
-        Pairings {
-            premises: Lists::new(heap),
-            gives: Vec::new(heap),
-            lacking: false,
-        }
-    }
-
-    /// Lets all pairings go.
-    pub(crate) fn restart(&mut self)
-        ensures premises { lists_of self.new.premises ≡ [] }
-        ensures gives { self.new.gives.items ≡ [] }
-        ensures lacking { self.new.lacking ≡ false }
-    {
-        self.premises.clear();
-        self.gives.clear();
-        self.lacking = false;
-    }
-
-    /// How many pairings there are.
-    pub(crate) fn len(&self) -> usize
-        ensures { result ≡ length self.now.gives.items }
-    {
-        self.gives.len()
-    }
-
-    /// The premise of the pairing at a place.
-    pub(crate) fn premise(&self, place: usize) -> &[Tie]
-        ensures { result.now ≡ slice_index_or (lists_of self.now.premises) place [] }
-    {
-        self.premises.at(place)
-    }
-
-    /// The tie that the pairing at a place gives.
-    pub(crate) fn gives(&self, place: usize) -> Tie
-        ensures { result ≡ slice_index_or self.now.gives.items place no_tie }
-    {
-        match self.gives.get(place) {
-            Some(tie) => *tie,
-            None => Tie::between(Bound::at_least(0, 0), Bound::at_least(0, 0)),
-        }
-    }
-}
-
-impl Listener for Pairings {
+impl Listener for Listing<Tie, Tie> {
     ghost hears = { Told };
 
     fn hear(&mut self, premise: &[Tie], gives: Tie) {
-        if self.premises.push(premise).is_err() || self.gives.push(gives).is_err() {
-            self.lacking = true;
-        }
+        self.take(gives, premise);
     }
 }

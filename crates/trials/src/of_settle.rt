@@ -1,11 +1,13 @@
 //! Ties that rows force.
-use kinds::item::Item;
+use kinds::item::{Item, Tie};
 use kinds::kinds::End;
 use linear::base::Base;
+use order::bound::Bound;
 use order::range::Range;
 use order::variables::Variables;
 use rows::storage::Rows;
 use settle::settle::settle;
+use settle::tied::TiedVariables;
 use std::alloc::Global;
 use std::test::Fail;
 use ties::classes::Ties;
@@ -45,5 +47,28 @@ fn a_sum_is_settled(rt: HostRuntime) -> Result<(), Fail> {
 #[test]
 fn a_sum_out_of_reach_is_void(rt: HostRuntime) -> Result<(), Fail> {
     assert_eq!(rt; settled(rt.alloc(), &[(0, 1), (0, 1), (3, 3)])?, (2, None));
+    Ok(())
+}
+
+// A and B have a bit each, which A >= 1 and B >= 1 are.
+#[test]
+fn a_clause_and_a_pairing_make_ties(rt: HostRuntime) -> Result<(), Fail> {
+    let heap = rt.alloc();
+    let mut variables = Variables::new(heap);
+    for _ in 0..2 {
+        if let Some(range) = Range::new(0, 1) {
+            variables.add(range)?;
+        }
+    }
+    let mut tied = TiedVariables::new(heap, &variables, &Ties::new(heap))?;
+    let one = Bound::at_least(0, 1);
+    let other = Bound::at_least(1, 1);
+    let settled = Tie::between(one, Bound::at_least(0, 0));
+    let same = Tie::between(one, other);
+    assert!(rt; tied.follow(&[settled], same));
+    assert!(rt; tied.heed(&[Bound::below(1, 1), one]));
+    assert!(rt; tied.heed(&[one]));
+    assert!(rt; tied.follow(&[settled], same));
+    assert!(rt; !tied.heed(&[Bound::below(1, 1)]));
     Ok(())
 }

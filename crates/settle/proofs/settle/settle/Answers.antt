@@ -1,29 +1,37 @@
-use Rattle.std.proofs.Common.{sym, refl, ap, ◌∙◌, arith}
+use Rattle.std.proofs.Common.{sym, ap, ◌∙◌, subst}
+use Rattle.calls.specs.Jobs.{job_of}
 use Rattle.order.specs.Variables.{ranges_of}
-use Rattle.ties.specs.Roots.{free}
-use Rattle.settle.proofs.Settled.{ready_none, ready_more, refused_here, closed_here}
+use Rattle.ties.specs.Roots.{tied, free}
+use Rattle.rows.specs.Rows.{rows_of}
+use Rattle.theory.specs.Closed.{Sound}
+use Rattle.settle.specs.Moves.{Further}
+use Rattle.settle.specs.Tied.{roots_in}
+use Rattle.settle.proofs.Settled.{ready_more, refused_here, closed_here}
 use Rattle.settle.proofs.settle.settle.Goals as goal
 
-pub loop-before-init : goal.loop-before-init
-loop-before-init g c = ready_none _ (ranges_of c.args.variables.now) _ _ c.args.ties.now c.in_ok-now.ensures.cases (omega (arith, c.len.ensures, c.bits.ensures))
+pub returns-then-not-branch-clause-settles : goal.returns-then-not-branch-clause-settles
+returns-then-not-branch-clause-settles g c seated s =
+    let j = job_of g.K.Kinds.meaning (ranges_of c.args.variables.now) (rows_of c.args.rows.now) in
+    refused_here c.loop-before.invariant _ c.as_ref.ensures.value c.walk.new.self _ c.in_ok-walk.ensures.walked c.if-not-branch.true seated
+    (subst (λ f. Sound j (tied f)) (sym c.in_ok-tied.ensures.roots) s)
 
-pub returns-then-not-branch : goal.returns-then-not-branch
-returns-then-not-branch g c = record {
-  grows = λ level. tt;
-  settles = λ level. refused_here c.loop-before.invariant _ _ c.in_ok-walk.ensures.walked c.if-not-branch.true;
-}
-
-pub returns-then-free : goal.returns-then-free
-returns-then-free g c =
+pub returns-then-free-clause-grows : goal.returns-then-free-clause-grows
+returns-then-free-clause-grows g c level =
     let walks = c.in_ok-walk.ensures in
-    let ready = ready_more c.loop-before.invariant _ _ walks.walked c.if-not-branch.false walks.further refl in
+    let ready = ready_more c.loop-before.invariant _ c.as_ref.ensures.value c.walk.new.self _ walks.walked walks.ranges c.if-not-branch.false walks.further c.in_ok-start.start c.in_ok-start.ensures.cases in
+    subst (λ os. Further os (roots_in c.walk.new.self)) (c.in_ok-tied.ensures.same level) ready.further
+
+pub returns-then-free-clause-settles : goal.returns-then-free-clause-settles
+returns-then-free-clause-settles g c seated =
+    let j = job_of g.K.Kinds.meaning (ranges_of c.args.variables.now) (rows_of c.args.rows.now) in
+    let walks = c.in_ok-walk.ensures in
     let same_free = sym c.free.ensures ∙ c.if-free.true ∙ c.free-in-loop-before.ensures ∙ ap free c.in_ok-start.ensures.cases in
-    record {
-      grows = λ level. ready.further;
-      settles = λ level seated. (closed_here c.loop-before.invariant _ _ walks.walked c.if-not-branch.false walks.further same_free seated, ready.sound seated);
-    }
+    let ready = ready_more c.loop-before.invariant _ c.as_ref.ensures.value c.walk.new.self _ walks.walked walks.ranges c.if-not-branch.false walks.further c.in_ok-start.start c.in_ok-start.ensures.cases in (
+      closed_here c.loop-before.invariant _ c.as_ref.ensures.value c.walk.new.self _ walks.walked walks.ranges c.if-not-branch.false walks.further same_free seated,
+      λ s. ready.sound seated (subst (λ f. Sound j (tied f)) (sym c.in_ok-tied.ensures.roots) s),
+    )
 
 pub loop-before-preserved : goal.loop-before-preserved
 loop-before-preserved g c =
     let walks = c.in_ok-walk.ensures in
-    ready_more c.loop-before.invariant _ _ walks.walked c.if-not-branch.false walks.further c.in_ok-start.ensures.cases
+    ready_more c.loop-before.invariant _ c.as_ref.ensures.value c.walk.new.self _ walks.walked walks.ranges c.if-not-branch.false walks.further c.in_ok-start.start c.in_ok-start.ensures.cases

@@ -1,8 +1,0 @@
-use Rattle.settle.proofs.Heeding.{heeds_nothing, heeds_one}
-use Rattle.settle.proofs.heed.heed.Goals as goal
-
-pub returns-in-Nothing : goal.returns-in-Nothing
-returns-in-Nothing c long = heeds_nothing _ _ _ c.in-Nothing.ensures
-
-pub returns-in-One : goal.returns-in-One
-returns-in-One c long = heeds_one _ _ c.args.ties.now _ c.in-One.u long c.in-One.ensures c.tie.result c.tie.ensures
