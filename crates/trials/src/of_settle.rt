@@ -60,7 +60,7 @@ fn a_clause_and_a_pairing_make_ties(rt: HostRuntime) -> Result<(), Fail> {
             variables.add(range)?;
         }
     }
-    let mut tied = TiedVariables::new(heap, &variables, &Ties::new(heap))?;
+    let mut tied = TiedVariables::new(&variables, Ties::new(heap))?;
     let one = Bound::at_least(0, 1);
     let other = Bound::at_least(1, 1);
     let settled = Tie::between(one, Bound::at_least(0, 0));

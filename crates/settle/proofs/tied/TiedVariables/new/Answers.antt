@@ -7,10 +7,10 @@ use Rattle.settle.proofs.tied.TiedVariables.new.Goals as goal
 pub returns-clause-roots : goal.returns-clause-roots
 returns-clause-roots c =
     let grown = (rw c.unwrap.ensures at c.grow.ensures.grows).1 in
-    grown.roots ∙ ap root_at (c.in_ok-reserve.ensures.same ∙ c.in_ok-ties.ensures)
+    grown.roots ∙ ap root_at c.in_ok-reserve.ensures.same
 
 pub returns-clause-same : goal.returns-clause-same
 returns-clause-same c level =
     let grown = (rw c.unwrap.ensures at c.grow.ensures.grows).1 in
-    let kept = c.in_ok-reserve.ensures.same ∙ c.in_ok-ties.ensures in
-    same_roots (roots_of c.grow.new.self) (roots_of c.args.ties.now) (omega (arith, grown.long, ap length c.in_ok-reserve.ensures.same, ap length c.in_ok-ties.ensures)) (grown.roots ∙ ap root_at kept)
+    let kept = c.in_ok-reserve.ensures.same in
+    same_roots (roots_of c.grow.new.self) (roots_of c.args.ties) (omega (arith, grown.long, ap length kept)) (grown.roots ∙ ap root_at kept)
