@@ -12,6 +12,7 @@ use order::visit::Visitor;
 /// row's clauses and pairings, and when it is spent. It answers for any items whatever, and changes nothing.
 pub trait Kind {
     /// The code by which rows name the kind.
+    // Kept as it is: a rule of the project names kinds by numbers, and a list of kinds may grow.
     const CODE: u8;
 
     /// The length of the longest clause.

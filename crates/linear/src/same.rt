@@ -12,6 +12,7 @@ use order::range::Range;
 use order::visit::Visitor;
 use std::ops;
 
+// Kept as it is: one function for two and for three variables would fold over an array, and is no plainer.
 // The thresholds of A and B: above the least value of the two, and below what follows the greatest.
 fn thresholds(ranges: &[Range], a: u16, b: u16) -> ops::Range<u16>
     ensures first { result.start ≡ start ranges.now a b }

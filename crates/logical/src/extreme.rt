@@ -27,6 +27,7 @@ pub type Min = Extreme<true>;
 // A row: C is the greater of A and B, or the lesser where `down`.
 #[derive(Clone, Copy)]
 struct Choice {
+    // Kept as it is: a const parameter here was tried, and each clause then had to name the value at entry.
     down: bool,
     a: u16,
     b: u16,

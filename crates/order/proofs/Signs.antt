@@ -1,8 +1,9 @@
 -- Laws of literals and their truth. Assumes nothing.
 use Rattle.std.proofs.Common.{◌≡◌, ℕ, Bool, true, false, not, ◌⊎◌, sym, refl, ap, ◌∙◌, inl, inr, arith}
+use Rattle.std.proofs.Math.Bool.{not-not}
 use Rattle.std.proofs.lemmas.Bool.{both_ways, cases_Bool}
 use Rattle.std.proofs.lemmas.Bool.Decides.{nat_tests}
-use Rattle.order.specs.Literals.{Literal, False, True, Bit, Not, opposite, same, truth, TruthBy}
+use Rattle.order.specs.Literals.{Literal, False, True, Bit, Not, opposite, same, truth}
 use Rattle.order.specs.contracts.literal.LiteralPartialEq.TheImpl.{eq-value}
 
 -- what `==` tests
@@ -32,19 +33,8 @@ opposite_opposite x = grind arith
 pub opposite_apart : (x : Literal) → opposite x ≡ x → ⊥
 opposite_apart x e = grind arith
 
-pub not_not : (b : Bool) → not (not b) ≡ b
-not_not true = refl
-not_not false = refl
-
 pub truth_opposite : (β : ℕ → Bool) (l : Literal) → truth β (opposite l) ≡ not (truth β l)
 truth_opposite β False = refl
 truth_opposite β True = refl
 truth_opposite β (Bit n) = refl
-truth_opposite β (Not n) = sym (not_not (β n))
-
--- the truth that a closure told, where it is that of each bit
-pub truth_told : (R : ℕ → Bool → Type 0) (β : ℕ → Bool) (l : Literal) (t : Bool) → TruthBy R l t → ((n : ℕ) (b : Bool) → (l ≡ Bit n) ⊎ (l ≡ Not n) → R n b → b ≡ β n) → t ≡ truth β l
-truth_told R β False t h each = h
-truth_told R β True t h each = h
-truth_told R β (Bit n) t h each = each n t (inl refl) h
-truth_told R β (Not n) t h each = sym (not_not t) ∙ ap not (each n (not t) (inr refl) h)
+truth_opposite β (Not n) = sym (not-not (β n))

@@ -22,6 +22,7 @@ pub struct Reader<'a> {
     job: OpenJob,
     // Kept as it is: a rule of the project keeps a name as its place in the sheet.
     names: Vec<Part>,
+    // Kept as it is: a rule of the project matches the section together with the line.
     section: Section,
 }
 

@@ -37,6 +37,7 @@ impl Reason {
     pub fn layer(self) -> u8
         ensures { result ≡ layer self }
     {
+        // Kept as it is: a rule of the project tells users the layer as a number.
         match self {
             Reason::Job(_) => 2,
             _ => 1,

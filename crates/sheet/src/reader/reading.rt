@@ -54,6 +54,7 @@ impl From<Fault> for LineFault {
     }
 }
 
+// Kept as it is: `take_all` is the one function under both headings; each names its words for its contract.
 // The first heading: the place of the first word that is wrong, missing or too many.
 fn first_heading(text: &[u8], line: Part) -> Result<(), usize>
     ensures { Fits heading (words_of text.now line) result }
