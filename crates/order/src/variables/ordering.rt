@@ -9,14 +9,6 @@ use super::Variables;
 use crate::bound::Bound;
 use crate::visit::Visitor;
 
-// Where X reaches t + 1 it reaches t.
-fn step(variable: u16, t: u16) -> [Bound; 2]
-    requires { t < 65535 }
-    ensures { result ≡ misses variable (t + 1) ∷ reaches variable t ∷ [] }
-{
-    [Bound::below(variable, t + 1), Bound::at_least(variable, t)]
-}
-
 impl Variables {
     /// Shows the visitor the order clauses of one variable; none where it is not there.
     pub fn visit_order<V: Visitor>(&self, x: usize, visitor: &mut V)
@@ -27,7 +19,7 @@ impl Variables {
         };
         let variable = x as u16;
         for t in u16::from(range.low()) + 1..u16::from(range.high()) {
-            visitor.visit(&step(variable, t));
+            visitor.visit(&Bound::at_least(variable, t + 1).implies(Bound::at_least(variable, t)));
         }
     }
 

@@ -217,6 +217,7 @@ impl Sheet {
         }
         let mut line = 1;
         for (part, _) in Lines::of(text) {
+            // Kept as it is: a `?` cannot take the reader apart for the sheet that it has read so far.
             if let Err(fault) = reader.take(part) {
                 return reader.halted(fault, line);
             }
