@@ -23,12 +23,7 @@ fn number_truth(truths: &[bool], number: u16) -> bool
 pub fn literal_truth(bits: &[bool], literal: Literal) -> bool
     ensures { result ≡ truth (bit_at bits.now) literal }
 {
-    match literal {
-        Literal::False => false,
-        Literal::True => true,
-        Literal::Bit(n) => bit_truth(bits, n),
-        Literal::Not(n) => !bit_truth(bits, n),
-    }
+    literal.truth(|n| bit_truth(bits, n))
 }
 
 // The truth of a bit; false where there is none.
@@ -49,8 +44,8 @@ pub fn bit_truths(heap: Global, ties: &Ties, truths: &[bool]) -> Result<Vec<bool
     let count = ties.len() as u16;
     let numbering = Numbering::new(heap, ties, count)?;
     let mut bits = Vec::new(heap);
-    for k in 0..count {
-        let root = ties.root(Literal::Bit(k + 1));
+    for n in 1..=count {
+        let root = ties.root(Literal::Bit(n));
         bits.push(root_truth(&numbering, truths, root))?;
     }
     Ok(bits)
@@ -60,10 +55,5 @@ pub fn bit_truths(heap: Global, ties: &Ties, truths: &[bool]) -> Result<Vec<bool
 fn root_truth(numbering: &Numbering<'_, Ties>, truths: &[bool], root: Literal) -> bool
     ensures { there (bits_in numbering.now) root ≡ true → result ≡ truth (λ m. number_at truths.now (free_to (root_in numbering.now) m)) root }
 {
-    match root {
-        Literal::False => false,
-        Literal::True => true,
-        Literal::Bit(n) => number_truth(truths, numbering.number(n)),
-        Literal::Not(n) => !number_truth(truths, numbering.number(n)),
-    }
+    root.truth(|n| number_truth(truths, numbering.number(n)))
 }

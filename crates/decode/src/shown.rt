@@ -26,10 +26,8 @@ impl Shown<'_> {
     fn reaches(&self, variable: u16, at: u16) -> bool
         ensures { result ≡ truth (bit_at self.now.bits.now) (reach (ranges_of self.now.variables.now) variable at) }
     {
-        literal_truth(
-            self.bits,
-            self.variables.literal(Bound::at_least(variable, at)),
-        )
+        let literal = self.variables.literal(Bound::at_least(variable, at));
+        literal_truth(self.bits, literal)
     }
 
     // Whether the bits of a variable are in order: where X reaches t + 1 it reaches t.
