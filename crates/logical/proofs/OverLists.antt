@@ -8,7 +8,7 @@ use Rattle.kinds.specs.declared.item.Item.{Item}
 use Rattle.kinds.specs.declared.item.Item.TheVariants.{Variable}
 use Rattle.kinds.specs.Items.{var}
 use Rattle.logical.specs.Distinct.{apart_from, apart_later}
-use Rattle.logical.proofs.Loops.{Leads, at, begin}
+use Rattle.kinds.proofs.Loops.{Leads, at, begin}
 use Rattle.kinds.specs.Tests.{every, all_between}
 
 -- a list's fold G, and R over its places, which takes the same steps

@@ -28,7 +28,7 @@ fn differs_later(items: &[Item], values: &[u8], p: usize) -> bool
 }
 
 // Shows the visitor that A differs from each of the later items.
-#[tactic(auto, using(crate::proofs::Loops::next, crate::proofs::OverLists::begin_list))]
+#[tactic(auto, using(kinds::proofs::Loops::next, crate::proofs::OverLists::begin_list))]
 fn visit_later<V: Visitor>(a: u16, later: &[Item], ranges: &[Range], visitor: &mut V)
     ensures { After V.Visitor.step visitor.old (joined (apart_from ranges.now a) later.now) visitor.new }
 {
@@ -39,7 +39,7 @@ fn visit_later<V: Visitor>(a: u16, later: &[Item], ranges: &[Range], visitor: &m
 }
 
 // Tells the listener that each item but that at p, which is A, is not v where A is.
-#[tactic(auto, using(crate::proofs::Loops::next))]
+#[tactic(auto, using(kinds::proofs::Loops::next))]
 fn tell_others<L: Listener>(p: usize, a: u16, items: &[Item], ranges: &[Range], listener: &mut L)
     requires { a ≡ var items.now p }
     ensures { After L.Listener.hears listener.old (excludes_others items.now ranges.now p) listener.new }
@@ -79,14 +79,14 @@ impl Kind for Distinct {
         (0..items.len()).all(|p| differs_later(items, values, p))
     }
 
-    #[tactic(auto, using(crate::proofs::Loops::next, crate::proofs::OverLists::apart_rest))]
+    #[tactic(auto, using(kinds::proofs::Loops::next, crate::proofs::OverLists::apart_rest))]
     fn visit_clauses<V: Visitor>(items: &[Item], ranges: &[Range], visitor: &mut V) {
         for (p, item) in items.iter().enumerate() {
             visit_later(item.variable(), &items[p + 1..], ranges, visitor);
         }
     }
 
-    #[tactic(auto, using(crate::proofs::Loops::next))]
+    #[tactic(auto, using(kinds::proofs::Loops::next))]
     fn tell_pairings<L: Listener>(items: &[Item], ranges: &[Range], listener: &mut L) {
         for (p, item) in items.iter().enumerate() {
             tell_others(p, item.variable(), items, ranges, listener);

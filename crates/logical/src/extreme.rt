@@ -49,12 +49,8 @@ impl Choice {
         ensures b { result.b ≡ var items.now 1 }
         ensures c { result.c ≡ var items.now 2 }
     {
-        Choice {
-            down,
-            a: reading::variable_at(items, 0),
-            b: reading::variable_at(items, 1),
-            c: reading::variable_at(items, 2),
-        }
+        let [a, b, c] = reading::variables::<3>(items);
+        Choice { down, a, b, c }
     }
 
     // X(v), or its opposite where `down`.
@@ -88,13 +84,13 @@ impl Choice {
         let a = self.side(self.a, v);
         let b = self.side(self.b, v);
         let c = self.side(self.c, v);
-        visitor.visit(&[a.opposite(), c]);
-        visitor.visit(&[b.opposite(), c]);
+        visitor.visit(&a.implies(c));
+        visitor.visit(&b.implies(c));
         visitor.visit(&[a, b, c.opposite()]);
     }
 
     // Shows the visitor that C is the greater of A and B, or the lesser where `down`.
-    #[tactic(auto, using(crate::proofs::Loops::next))]
+    #[tactic(auto, using(kinds::proofs::Loops::next))]
     fn visit<V: Visitor>(self, ranges: &[Range], visitor: &mut V)
         ensures { After V.Visitor.step visitor.old (extreme_clauses self.down ranges.now self.a self.b self.c) visitor.new }
     {
@@ -116,7 +112,7 @@ impl Choice {
     }
 
     // Tells the listener the pairings of C, the greater of A and B, or the lesser where `down`.
-    #[tactic(auto, using(crate::proofs::Loops::next))]
+    #[tactic(auto, using(kinds::proofs::Loops::next))]
     fn tell<L: Listener>(self, ranges: &[Range], listener: &mut L)
         ensures { After L.Listener.hears listener.old (extreme_pairings self.down ranges.now self.a self.b self.c) listener.new }
     {
@@ -152,10 +148,7 @@ impl<const DOWN: bool> Kind for Extreme<DOWN> {
     }
 
     fn met(items: &[Item], values: &[u8]) -> bool {
-        let row = Choice::of(DOWN, items);
-        let a = reading::value_of(values, row.a);
-        let b = reading::value_of(values, row.b);
-        let c = reading::value_of(values, row.c);
+        let [a, b, c] = reading::variables::<3>(items).map(|x| reading::value_of(values, x));
         c == if DOWN { a.min(b) } else { a.max(b) }
     }
 

@@ -30,10 +30,8 @@ impl Pair {
         ensures a { result.a ≡ var items.now 0 }
         ensures b { result.b ≡ var items.now 1 }
     {
-        Pair {
-            a: reading::variable_at(items, 0),
-            b: reading::variable_at(items, 1),
-        }
+        let [a, b] = reading::variables::<2>(items);
+        Pair { a, b }
     }
 
     // The values that A and B can both have.
@@ -63,7 +61,7 @@ impl Pair {
     }
 
     // Shows the visitor that A and B differ.
-    #[tactic(auto, using(crate::proofs::Loops::next))]
+    #[tactic(auto, using(kinds::proofs::Loops::next))]
     pub(crate) fn visit_apart<V: Visitor>(self, ranges: &[Range], visitor: &mut V)
         ensures { After V.Visitor.step visitor.old (apart ranges.now self.a self.b) visitor.new }
     {
@@ -73,7 +71,7 @@ impl Pair {
     }
 
     // Tells the listener that B is not v where A is, for each value.
-    #[tactic(auto, using(crate::proofs::Loops::next))]
+    #[tactic(auto, using(kinds::proofs::Loops::next))]
     pub(crate) fn tell_excluded<L: Listener>(self, ranges: &[Range], listener: &mut L)
         ensures { After L.Listener.hears listener.old (excludes_each ranges.now self.a self.b) listener.new }
     {
@@ -89,7 +87,6 @@ impl Pair {
     {
         let from_a = Bound::at_least(self.a, v);
         let over_a = Bound::at_least(self.a, v + 1);
-        let gives = Tie::between(from_a, over_a);
         let same = [
             Tie::between(from_a, Bound::at_least(self.b, v)),
             Tie::between(over_a, Bound::at_least(self.b, v + 1)),
@@ -98,12 +95,12 @@ impl Pair {
             Tie::between(from_a, Bound::below(self.b, v + 1)),
             Tie::between(over_a, Bound::below(self.b, v)),
         ];
-        listener.hear(&same, gives);
-        listener.hear(&turned, gives);
+        listener.hear(&same, skips(self.a, v));
+        listener.hear(&turned, skips(self.a, v));
     }
 
     // Tells the listener the pairings of A and B, which differ.
-    #[tactic(auto, using(crate::proofs::Loops::next))]
+    #[tactic(auto, using(kinds::proofs::Loops::next))]
     fn tell_apart<L: Listener>(self, ranges: &[Range], listener: &mut L)
         ensures { After L.Listener.hears listener.old (apart_pairings ranges.now self.a self.b) listener.new }
     {
@@ -117,12 +114,10 @@ impl Pair {
 
 // X is not v.
 fn skips(x: u16, v: u16) -> Tie
-    requires { v < 256 }
+    requires { v + 1 < 2 ^ 16 }
     ensures { result ≡ skips x v }
 {
-    let from = Bound::at_least(x, v);
-    let over = Bound::at_least(x, v + 1);
-    Tie::between(from, over)
+    Tie::between(Bound::at_least(x, v), Bound::at_least(x, v + 1))
 }
 
 impl Kind for Neq {
@@ -149,8 +144,8 @@ impl Kind for Neq {
     }
 
     fn met(items: &[Item], values: &[u8]) -> bool {
-        let row = Pair::of(items);
-        reading::value_of(values, row.a) != reading::value_of(values, row.b)
+        let [a, b] = reading::variables::<2>(items).map(|x| reading::value_of(values, x));
+        a != b
     }
 
     fn visit_clauses<V: Visitor>(items: &[Item], ranges: &[Range], visitor: &mut V) {

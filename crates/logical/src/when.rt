@@ -31,11 +31,8 @@ impl Claim {
         ensures a { result.a ≡ var items.now 1 }
         ensures b { result.b ≡ var items.now 2 }
     {
-        Claim {
-            x: reading::variable_at(items, 0),
-            a: reading::variable_at(items, 1),
-            b: reading::variable_at(items, 2),
-        }
+        let [x, a, b] = reading::variables::<3>(items);
+        Claim { x, a, b }
     }
 
     // Shows the visitor that B reaches v where X is 1 and A reaches v.
@@ -63,7 +60,7 @@ impl Claim {
     }
 
     // Shows the visitor what X says where it is 1.
-    #[tactic(auto, using(crate::proofs::Loops::next))]
+    #[tactic(auto, using(kinds::proofs::Loops::next))]
     fn visit_upheld<V: Visitor>(self, ranges: &[Range], visitor: &mut V)
         ensures { After V.Visitor.step visitor.old (all_upheld ranges.now self.x self.a self.b) visitor.new }
     {
@@ -74,7 +71,7 @@ impl Claim {
     }
 
     // Shows the visitor what X says where it is 0.
-    #[tactic(auto, using(crate::proofs::Loops::next))]
+    #[tactic(auto, using(kinds::proofs::Loops::next))]
     fn visit_denied<V: Visitor>(self, ranges: &[Range], visitor: &mut V)
         ensures { After V.Visitor.step visitor.old (all_denied ranges.now self.x self.a self.b) visitor.new }
     {
@@ -109,10 +106,7 @@ impl Kind for When {
     }
 
     fn met(items: &[Item], values: &[u8]) -> bool {
-        let row = Claim::of(items);
-        let x = reading::value_of(values, row.x);
-        let a = reading::value_of(values, row.a);
-        let b = reading::value_of(values, row.b);
+        let [x, a, b] = reading::variables::<3>(items).map(|v| reading::value_of(values, v));
         x == u8::from(a <= b)
     }
 

@@ -1,6 +1,6 @@
 use Rattle.std.proofs.Common.{length}
 use Rattle.logical.specs.Distinct.{excludes_pair, excludes_others}
-use Rattle.logical.proofs.Loops.{Leads}
+use Rattle.kinds.proofs.Loops.{Leads}
 use Rattle.logical.proofs.distinct.tell_others.Given as goal
 
 abbrev pub invariant-loop-q : goal.invariant-loop-q

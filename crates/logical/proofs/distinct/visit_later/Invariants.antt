@@ -2,7 +2,7 @@ use Rattle.std.proofs.Common.{length}
 use Rattle.order.specs.Between.{joined}
 use Rattle.kinds.specs.declared.item.Item.TheVariants.{Variable}
 use Rattle.logical.specs.Distinct.{apart_from}
-use Rattle.logical.proofs.Loops.{Leads, at}
+use Rattle.kinds.proofs.Loops.{Leads, at}
 use Rattle.logical.proofs.distinct.visit_later.Given as goal
 
 abbrev pub invariant-loop-item : goal.invariant-loop-item

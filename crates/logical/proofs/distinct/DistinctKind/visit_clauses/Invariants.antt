@@ -1,6 +1,6 @@
 use Rattle.std.proofs.Common.{length}
 use Rattle.logical.specs.Distinct.{apart_later, all_apart}
-use Rattle.logical.proofs.Loops.{Leads}
+use Rattle.kinds.proofs.Loops.{Leads}
 use Rattle.logical.proofs.distinct.DistinctKind.visit_clauses.Given as goal
 
 abbrev pub invariant-loop-p : goal.invariant-loop-p

@@ -1,5 +1,5 @@
 use Rattle.logical.specs.Extreme.{extreme_clauses, chosen_at}
-use Rattle.logical.proofs.Loops.{Leads}
+use Rattle.kinds.proofs.Loops.{Leads}
 use Rattle.logical.proofs.extreme.Choice.visit.Given as goal
 
 abbrev pub invariant-loop-v : goal.invariant-loop-v

@@ -1,6 +1,6 @@
 use Rattle.std.proofs.Common.{◌≤◌}
 use Rattle.logical.specs.Neq.{told_of, apart_pairings}
-use Rattle.logical.proofs.Loops.{Leads}
+use Rattle.kinds.proofs.Loops.{Leads}
 use Rattle.logical.proofs.neq.Pair.tell_apart.Given as goal
 
 abbrev pub invariant-loop-v : goal.invariant-loop-v

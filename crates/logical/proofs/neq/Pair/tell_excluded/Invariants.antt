@@ -1,6 +1,6 @@
 use Rattle.std.proofs.Common.{◌≤◌}
 use Rattle.logical.specs.Neq.{excluded_at, excludes_each}
-use Rattle.logical.proofs.Loops.{Leads}
+use Rattle.kinds.proofs.Loops.{Leads}
 use Rattle.logical.proofs.neq.Pair.tell_excluded.Given as goal
 
 abbrev pub invariant-loop-v : goal.invariant-loop-v

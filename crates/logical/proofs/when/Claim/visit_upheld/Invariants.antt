@@ -1,6 +1,6 @@
 use Rattle.std.proofs.Common.{◌+◌}
 use Rattle.logical.specs.When.{upheld, all_upheld}
-use Rattle.logical.proofs.Loops.{Leads}
+use Rattle.kinds.proofs.Loops.{Leads}
 use Rattle.logical.proofs.when.Claim.visit_upheld.Given as goal
 
 abbrev pub invariant-loop-v : goal.invariant-loop-v
