@@ -18,6 +18,7 @@ pub fn ends_with_zero(lits: &[Lit]) -> bool
 }
 
 /// Why there is no assignment: a number is not given once, or there is no memory.
+// Kept as it is: one error type for all that lack memory is no plainer: each module names its own no beside `NoMemory`.
 #[derive(Clone, Copy, Debug, PartialEq, Eq)]
 pub enum AssignmentFault {
     NotOnce,

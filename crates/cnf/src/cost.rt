@@ -10,7 +10,7 @@ use sink::sinks::Sink;
 use std::marker::PhantomData;
 
 /// How many clauses there are, and what they cost together. Past the largest number either stays there.
-#[derive(Clone, Copy, Debug)]
+#[derive(Clone, Copy, PartialEq, Eq, Debug)]
 pub struct Tally {
     pub clauses: usize,
     pub cost: usize,

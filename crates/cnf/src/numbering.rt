@@ -3,7 +3,7 @@ ghost use Rattle.cnf.specs.Numbered.{Numbers};
 
 use crate::room::Room;
 use crate::roots::Roots;
-use order::literal::Literal;
+use order::literal::{Literal, entry_or};
 use sink::lit::Lit;
 use std::alloc::{AllocError, Global};
 
@@ -48,10 +48,7 @@ impl<'a, R: Roots> Numbering<'a, R> {
     pub fn number(&self, bit: u16) -> u16
         ensures { bit ≤ bits_in self.now → result ≡ free_to (root_in self.now) bit }
     {
-        match bit.checked_sub(1) {
-            Some(k) => self.numbers.get(usize::from(k)).copied().unwrap_or(0),
-            None => 0,
-        }
+        entry_or(&self.numbers, bit, 0)
     }
 
     // The literal of the file.

@@ -5,7 +5,7 @@ use crate::literals::has;
 use order::literal::Literal;
 
 /// With the literal the clause is true (it settles the clause), or says the same as without it; else it is new.
-#[derive(Clone, Copy)]
+#[derive(Clone, Copy, PartialEq, Eq, Debug)]
 pub enum Role {
     Settles,
     Idle,

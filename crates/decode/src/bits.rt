@@ -8,7 +8,7 @@ ghost use Rattle.theory.specs.Truth.{through};
 ghost use Rattle.decode.specs.Bits.{number_at, bit_at};
 
 use cnf::numbering::Numbering;
-use order::literal::Literal;
+use order::literal::{Literal, entry_or};
 use std::alloc::{AllocError, Global};
 use ties::classes::Ties;
 
@@ -30,11 +30,7 @@ pub fn literal_truth(bits: &[bool], literal: Literal) -> bool
 fn bit_truth(bits: &[bool], bit: u16) -> bool
     ensures { result ≡ bit_at bits.now bit }
 {
-    usize::from(bit)
-        .checked_sub(1)
-        .and_then(|place| bits.get(place))
-        .copied()
-        .unwrap_or(false)
+    entry_or(bits, bit, false)
 }
 
 /// The truth of each bit, from the truth of the file's numbers: that of its root.

@@ -18,7 +18,7 @@ pub fn put_declared(declared: &[bool], values: &[u8], buffer: &mut [u8])
         .iter()
         .enumerate()
         .filter(|(_, declared)| **declared);
-    // Kept as it is: with `iter_mut` the proof does not close: no invariant can name the buffer while it is lent.
+    // Kept as it is: `iter_mut().zip(..)` was tried and the proof did not close: no invariant can name what is lent there.
     for (at, (x, _)) in (0..buffer.len()).zip(of_declared) {
         buffer[at] = values.get(x).copied().unwrap_or(0);
     }

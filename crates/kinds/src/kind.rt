@@ -28,8 +28,9 @@ pub trait Kind {
     fn formed(items: &[Item]) -> bool
         ensures { result ≡ meaning.formed items.now };
 
-    // Kept as it is: items and ranges stay two parameters, since `formed` and `met` take the items without ranges.
-    // Kept as it is: most kinds answer alike here and in `spent`, but no default body meets a meaning that it does not know.
+    // Kept as it is: items and ranges in a struct are no plainer, since `formed` and `met` take the items without ranges.
+    // Kept as it is: most kinds answer alike here and in `spent`, but the proof of a default body cannot close: it does not
+    // know the meaning.
     /// Whether the ranges of the items' variables fit the kind.
     fn fits(items: &[Item], ranges: &[Range]) -> bool
         ensures { result ≡ meaning.fits items.now ranges.now };

@@ -32,7 +32,7 @@ fn visit_corner<V: Visitor>(a: u16, b: u16, c: u16, i: u8, j: u8, visitor: &mut 
 }
 
 // How the value k of one variable ties two others, P and Q.
-// Kept as it is: a closure in place of the enum would be written twice for each link, to tell it and to test it.
+// Kept as it is: a closure is no plainer: it would be written twice for each link, to tell it and to test it.
 #[derive(Clone, Copy)]
 enum Link {
     // P + Q is k.

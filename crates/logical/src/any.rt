@@ -77,7 +77,7 @@ impl Kind for Any {
     }
 
     fn visit_clauses<V: Visitor>(items: &[Item], _ranges: &[Range], visitor: &mut V) {
-        // Kept as it is: nothing is allocated per clause, so its bounds fill the front of an array.
+        // Kept as it is: a rule of the project needs it: nothing is allocated per clause, so its bounds fill the front of an array.
         let clause: [Bound; MOST] = array::from_fn(|k| {
             bound_of(items.get(k).copied().unwrap_or(Item::Variable(0)))
         });

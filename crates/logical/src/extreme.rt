@@ -27,7 +27,7 @@ pub type Min = Extreme<true>;
 // A row: C is the greater of A and B, or the lesser where `down`.
 #[derive(Clone, Copy)]
 struct Choice {
-    // Kept as it is: a const parameter here was tried, and each clause then had to name the value at entry.
+    // Kept as it is: a const parameter was tried here and is no plainer: each clause then has to name the value at entry.
     down: bool,
     a: u16,
     b: u16,
@@ -64,6 +64,7 @@ impl Choice {
         }
     }
 
+    // Kept as it is: one function for two and for three variables would fold over an array, and is no plainer.
     // The thresholds above the least low of the three variables, and up to the greatest high.
     fn thresholds(self, ranges: &[Range]) -> ops::Range<u16>
         ensures from { result.start ≡ least_past ranges.now self.a self.b self.c }

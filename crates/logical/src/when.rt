@@ -59,6 +59,7 @@ impl Claim {
         ]);
     }
 
+    // Kept as it is: the two visits below in one, with variable and clause as parameters, are no plainer.
     // Shows the visitor what X says where it is 1.
     #[tactic(auto, using(kinds::proofs::Loops::next))]
     fn visit_upheld<V: Visitor>(self, ranges: &[Range], visitor: &mut V)

@@ -1,5 +1,5 @@
 -- The literals: the constants, a bit (numbered from 1) and a bit's opposite. Assumes nothing.
-use Rattle.std.specs.Prelude.{◌≡◌, ℕ, Bool, true, false, not, ◌==◌}
+use Rattle.std.specs.Prelude.{◌≡◌, ℕ, zero, suc, Bool, true, false, not, ◌==◌, List, slice_index_or}
 pub use Rattle.order.specs.declared.literal.Literal.{Literal}
 pub use Rattle.order.specs.declared.literal.Literal.TheVariants.{False, True, Bit, Not}
 
@@ -41,3 +41,8 @@ TruthBy R False t = t ≡ false
 TruthBy R True t = t ≡ true
 TruthBy R (Bit n) t = R n t
 TruthBy R (Not n) t = R n (not t)
+
+-- what a list says of the bit n, in its entry n - 1; d where it has none
+abbrev pub entry_or : {T : Type 0} → List T → ℕ → T → T
+entry_or xs zero d = d
+entry_or xs (suc n) d = slice_index_or xs n d

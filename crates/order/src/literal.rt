@@ -1,6 +1,6 @@
 //! Literals: the constants, a bit and a bit's opposite.
 ghost use Rattle.std.specs.Prelude.{◌≡◌};
-ghost use Rattle.order.specs.Literals.{opposite, TruthBy};
+ghost use Rattle.order.specs.Literals.{opposite, TruthBy, entry_or};
 
 /// A literal of a job. Bits are numbered from 1.
 #[derive(Clone, Copy, PartialEq, Eq, Debug)]
@@ -36,4 +36,14 @@ impl Literal {
             Literal::Not(n) => !bit(n),
         }
     }
+}
+
+/// What a list says of a bit, in the entry before the bit's number; `absent` where it has none.
+pub fn entry_or<T: Copy + Drop>(entries: &[T], bit: u16, absent: T) -> T
+    ensures { result ≡ entry_or entries.now bit absent }
+{
+    usize::from(bit)
+        .checked_sub(1)
+        .and_then(|k| entries.get(k).copied())
+        .unwrap_or(absent)
 }

@@ -12,7 +12,7 @@ const MOST_ROWS: usize = 1024;
 const MOST_ITEMS: usize = 4096;
 
 /// Why a row was not added.
-#[derive(Clone, Copy, Debug)]
+#[derive(Clone, Copy, PartialEq, Eq, Debug)]
 pub enum RowsError {
     TooManyRows,
     TooManyItems,
@@ -48,6 +48,7 @@ impl Rows {
         self.lists.reserve(rows, items)
     }
 
+    // Kept as it is: a `Row` as the parameter is no plainer, since who adds a row has its code and items apart.
     /// Adds a row, and answers its place.
     pub fn add(&mut self, code: u8, items: &[Item]) -> Result<usize, RowsError>
         ensures adds { Adds (rows_of self.old) code items.now result (rows_of self.new) }

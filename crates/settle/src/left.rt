@@ -11,7 +11,7 @@ use order::literal::Literal;
 
 /// What is left of a clause when false and repeats are struck out.
 // Kept as it is: the new form is no plainer: an option of an option does not say which `None` is the true clause.
-#[derive(Clone, Copy)]
+#[derive(Clone, Copy, PartialEq, Eq, Debug)]
 pub enum Left {
     /// Two literals or more, or the clause is true whatever else is tied.
     Enough,

@@ -37,6 +37,7 @@ impl TiedVariables<'_> {
             .any(|item| self.variable_moved(item.variable(), before))
     }
 
+    // Kept as it is: an enum of places is no plainer, since the specs number variables and rows in one run.
     /// Whether a bit of the part at `place` has another root than before; yes where there is no before.
     pub(crate) fn part_moved(&self, rows: &Rows, place: usize, before: Option<&Ties>) -> bool
         ensures { result ≡ false → IsSomeAnd before.entry (λ t. (b : Bound) → part_names (ranges_in self.now) (rows_of rows.now) place b.variable ≡ true → Still (ranges_in self.now) (root_at (roots_of t.now)) (root_at (roots_in self.now)) b) }

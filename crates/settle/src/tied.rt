@@ -38,6 +38,14 @@ impl<'a> TiedVariables<'a> {
         Ok(TiedVariables { variables, ties })
     }
 
+    /// The ties as they are now.
+    pub fn into_ties(self) -> Ties
+        ensures { roots_of result ≡ roots_in self.entry }
+    {
+        let TiedVariables { ties, .. } = self;
+        ties
+    }
+
     /// The root of a bound.
     pub(crate) fn root(&self, bound: Bound) -> Literal
         ensures { result ≡ root_by (root_at (roots_in self.now)) (literal (ranges_in self.now) bound) }
@@ -45,6 +53,7 @@ impl<'a> TiedVariables<'a> {
         self.ties.root(self.variables.literal(bound))
     }
 
+    // Kept as it is: an error type with one case is no plainer than the no of `tie`, `heed` and `follow`.
     /// Ties two literals; no where one is tied to the other's opposite.
     pub(crate) fn tie(&mut self, a: Literal, b: Literal) -> bool
         ensures tying { Tying result (roots_in self.old) a b (roots_in self.new) }

@@ -28,7 +28,8 @@ impl TiedVariables<'_> {
     {
         let count = self.variables.len() + rows.len();
         let mut possible = true;
-        // Kept as it is: a rule of the project needs the label: the walk is left from inside at a contradiction.
+        // Kept as it is: a rule of the project needs the label: the walk is left from inside at a contradiction, and
+        // `possible` says that it was.
         'walk: for place in 0..count {
             if !self.part_moved(rows, place, before) {
                 continue;

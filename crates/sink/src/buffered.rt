@@ -17,6 +17,7 @@ use crate::header::Header;
 pub struct Buffered<F: Format> {
     units: Vec<F::Unit>,
     header: Option<Header>,
+    // Kept as it is: the buffer alone is no plainer: it may have room for more units than were asked for.
     left: usize,
     ghost room: { vec_len units + left ≤ vec_capacity units },
     ghost whole: { units.items ≡ file_by F.header_units F.clause_units header (F.clauses_in units.items) } by { Coded-set (coded_list F.Unit.code) _ _ },

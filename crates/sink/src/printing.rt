@@ -15,7 +15,7 @@ pub(crate) fn lit_len(l: Lit) -> usize
 }
 
 /// Writes bytes as they are.
-// Kept as it is: `extend_from_slice` answers a `Result`, and does not promise that the capacity stays.
+// Kept as it is: the proof does not close with `extend_from_slice`, which answers a `Result`, and does not promise that the capacity stays.
 pub(crate) fn push_bytes(out: &mut Vec<u8>, bytes: &[u8])
     requires { Room out.old bytes.now }
     ensures { Appended out.old out.new bytes.now }

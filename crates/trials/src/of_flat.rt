@@ -27,14 +27,10 @@ fn lists_are_gone_over(rt: HostRuntime) -> Result<(), Fail> {
     assert_eq!(rt; lists.items_in_all(), 3);
     assert_eq!(rt; lists.head(1), Some(9));
     assert_eq!(rt; lists.head(2), None);
-    let mut places = 0;
-    for (head, list) in &lists {
-        assert_eq!(rt; lists.head(places), Some(head));
-        assert!(rt; lists.at(places) == list);
-        if places < 2 {
-            places += 1;
-        }
+    assert_eq!(rt; lists.iter().count(), 2);
+    for (place, (head, list)) in lists.iter().enumerate() {
+        assert_eq!(rt; lists.head(place), Some(head));
+        assert!(rt; lists.at(place) == list);
     }
-    assert_eq!(rt; places, 2);
     Ok(())
 }

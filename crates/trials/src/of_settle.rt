@@ -60,6 +60,7 @@ fn a_clause_and_a_pairing_make_ties(rt: HostRuntime) -> Result<(), Fail> {
             variables.add(range)?;
         }
     }
+    assert_eq!(rt; variables.len(), 2);
     let mut tied = TiedVariables::new(&variables, Ties::new(heap))?;
     let one = Bound::at_least(0, 1);
     let other = Bound::at_least(1, 1);
@@ -70,5 +71,6 @@ fn a_clause_and_a_pairing_make_ties(rt: HostRuntime) -> Result<(), Fail> {
     assert!(rt; tied.heed(&[one]));
     assert!(rt; tied.follow(&[settled], same));
     assert!(rt; !tied.heed(&[Bound::below(1, 1)]));
+    assert_eq!(rt; tied.into_ties().free(), 0);
     Ok(())
 }

@@ -42,7 +42,9 @@ fn words_are_parted_by_blanks(rt: HostRuntime) {
 fn lines_and_words_come_in_order(rt: HostRuntime) {
     let text = b"ab cd\n\n  e\n";
     let mut lines = Lines::of(text);
-    let Some((first, ab)) = lines.next() else {
+    let first = lines.next();
+    assert!(rt; first.is_some());
+    let Some((first, ab)) = first else {
         return;
     };
     assert_eq!(rt; (first.start, first.end), (0, 5));

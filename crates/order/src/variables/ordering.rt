@@ -27,7 +27,7 @@ impl Variables {
     pub fn visit_orders<V: Visitor>(&self, visitor: &mut V)
         ensures { After V.Visitor.step visitor.old (orders (ranges_of self.now)) visitor.new }
     {
-        // Kept as it is: the loop counts variables, which go by number; an entry does not name its own.
+        // Kept as it is: variables go by number, and with `enumerate` the entries would not be used: no plainer.
         for x in 0..self.ranges.len() {
             self.visit_order(x, visitor);
         }

@@ -54,7 +54,7 @@ impl From<Fault> for LineFault {
     }
 }
 
-// Kept as it is: `take_all` is the one function under both headings; each names its words for its contract.
+// Kept as it is: one function of both headings is no plainer than `take_all`, which stands below both.
 // The first heading: the place of the first word that is wrong, missing or too many.
 fn first_heading(text: &[u8], line: Part) -> Result<(), usize>
     ensures { Fits heading (words_of text.now line) result }
@@ -217,7 +217,8 @@ impl Sheet {
         }
         let mut line = 1;
         for (part, _) in Lines::of(text) {
-            // Kept as it is: a `?` cannot take the reader apart for the sheet that it has read so far.
+            // Kept as it is: `?` and `enumerate` are no plainer: the sheet read so far is made of the reader, and the
+            // number of the line after the last is asked for too.
             if let Err(fault) = reader.take(part) {
                 return reader.halted(fault, line);
             }

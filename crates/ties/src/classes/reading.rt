@@ -5,7 +5,7 @@ ghost use Rattle.ties.specs.Roots.{rank, root_at, root_by, tied, own, free};
 ghost use Rattle.ties.specs.Views.{roots_of};
 
 use super::Ties;
-use order::literal::Literal;
+use order::literal::{Literal, entry_or};
 
 impl Ties {
     /// How many bits there are.
@@ -35,10 +35,7 @@ impl Ties {
     fn bit_root(&self, n: u16) -> Literal
         ensures { result ≡ root_at (roots_of self.now) n }
     {
-        usize::from(n)
-            .checked_sub(1)
-            .and_then(|k| self.roots.get(k).copied())
-            .unwrap_or(Literal::Bit(n))
+        entry_or(&self.roots, n, Literal::Bit(n))
     }
 
     /// The first literal that is tied to `l`: `l` itself where its bit is not there.
