@@ -27,7 +27,7 @@ impl From<AllocError> for GrowError {
     }
 }
 
-// Kept as it is: `Clone` is not derived for a struct with ghost fields.
+// Kept as it is: the derive was tried and is refused: no `Clone` without `Copy` for a struct with ghost fields.
 impl Clone for Ties {
     ghost use Rattle.ties.specs.Views.{roots_of};
 
