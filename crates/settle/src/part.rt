@@ -42,6 +42,7 @@ impl Part {
     {
         self.clauses.restart();
         self.pairings.restart();
+        // Kept as it is: an enum of places is no plainer, since the specs number variables and rows in one run.
         let count = variables.len();
         if place < count {
             variables.visit_order(place, &mut self.clauses);

@@ -41,6 +41,7 @@ impl<H: Copy, T: Copy> Lists<H, T> {
     pub fn at(&self, place: usize) -> &[T]
         ensures { result.now ≡ slice_index_or (map (λ l. l.items) (lists_of self.now)) place [] }
     {
+        // Kept as it is: `map_or` was tried and is no plainer: its closure needs a clause of its own.
         match self.spans.get(place) {
             Some(span) => span.list(&self.items),
             None => &[],
