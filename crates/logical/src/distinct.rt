@@ -76,6 +76,7 @@ impl Kind for Distinct {
     }
 
     fn met(items: &[Item], values: &[u8]) -> bool {
+        // Kept as it is: `enumerate` with a closure that takes `&items[p + 1..]` was tried, and the proof did not close.
         (0..items.len()).all(|p| differs_later(items, values, p))
     }
 
