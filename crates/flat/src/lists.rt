@@ -8,7 +8,7 @@ mod reading;
 pub mod walking;
 
 /// A list's head, and where the list stands among all items: from `from` on and before `to`.
-#[derive(Drop)]
+#[derive(Clone, Copy, Drop)]
 pub struct Span<H> {
     pub(crate) head: H,
     pub(crate) from: usize,

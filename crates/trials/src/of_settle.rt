@@ -3,9 +3,13 @@ use kinds::item::{Item, Tie};
 use kinds::kinds::End;
 use linear::base::Base;
 use order::bound::Bound;
+use order::literal::Literal;
 use order::range::Range;
 use order::variables::Variables;
 use rows::storage::Rows;
+use settle::follow::follow;
+use settle::heed::heed;
+use settle::left::{Left, left_of};
 use settle::settle::settle;
 use settle::tied::TiedVariables;
 use std::alloc::Global;
@@ -72,5 +76,30 @@ fn a_clause_and_a_pairing_make_ties(rt: HostRuntime) -> Result<(), Fail> {
     assert!(rt; tied.follow(&[settled], same));
     assert!(rt; !tied.heed(&[Bound::below(1, 1)]));
     assert_eq!(rt; tied.into_ties().free(), 0);
+    Ok(())
+}
+
+// The same steps over ties that are lent.
+#[test]
+fn steps_take_ties_that_are_lent(rt: HostRuntime) -> Result<(), Fail> {
+    let heap = rt.alloc();
+    let mut variables = Variables::new(heap);
+    for _ in 0..2 {
+        if let Some(range) = Range::new(0, 1) {
+            variables.add(range)?;
+        }
+    }
+    let mut ties = Ties::new(heap);
+    ties.grow(2)?;
+    let one = Bound::at_least(0, 1);
+    let settled = Tie::between(one, Bound::at_least(0, 0));
+    let same = Tie::between(one, Bound::at_least(1, 1));
+    assert_eq!(rt;
+        left_of(&variables, &ties, &[one]),
+        Left::One(Literal::Bit(1))
+    );
+    assert!(rt; heed(&variables, &mut ties, &[one]));
+    assert!(rt; follow(&variables, &mut ties, &[settled], same));
+    assert_eq!(rt; ties.free(), 0);
     Ok(())
 }
