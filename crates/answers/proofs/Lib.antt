@@ -1,3 +1,4 @@
+pub mod Numbering
 pub mod Ending
 pub mod Claiming
 pub mod Marking

@@ -50,7 +50,7 @@ module _ (rs : List Range) (f : ℕ → Literal) where
   clause_few : (c : List Bound) → length (written_clause rs f c) ≤ 1
   clause_few c = one_at_most (map (lit f)) (has (rooted rs f c) True || opposed (rooted rs f c)) (struck (rooted rs f c))
 
-  written_few : (cs : List (List Bound)) → length (written_all rs f cs) ≤ length cs
+  pub written_few : (cs : List (List Bound)) → length (written_all rs f cs) ≤ length cs
   written_few [] = lit≤ tt
   written_few (c ∷ cs) = omega (arith, length-append (written_clause rs f c) (written_all rs f cs), clause_few c, written_few cs)
 

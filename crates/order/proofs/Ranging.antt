@@ -2,7 +2,7 @@
 use Rattle.std.proofs.Common.{◌≡◌, ℕ, zero, suc, ◌+◌, ◌-◌, ◌<◌, ◌≤◌, true, cond, ltb, leb, List, [], ◌∷◌, ◌++◌, length, get_or, Some, None, sym, refl, ap, ◌∙◌, subst, inl, inr, add-one, arith}
 use mathlib.Core.HLevel.{is_prop→PathP}
 use native.Mathlib.Bridge.{le_prop}
-use Rattle.std.proofs.lemmas.List.{get_or_append_left, get_or_default, get_or_push, length_push}
+use Rattle.std.proofs.lemmas.List.{get_or_append_left, get_or_default, get_or_past, get_or_push, length_push}
 use Rattle.std.proofs.lemmas.Bool.{cases_order}
 use Rattle.std.proofs.lemmas.Bool.Decides.{nat_tests}
 use Rattle.order.specs.declared.range.Range.{Range}
@@ -65,6 +65,14 @@ first_rises rs x (suc n) h =
     ]
 
 -- what is read at x is the number of bits before x, and the range of x
+-- a variable that is not there reaches nothing above 0
+pub reach_absent : (rs : List Range) (x t : ℕ) → length rs ≤ x → 0 < t → False ≡ reach rs x t
+reach_absent rs x t past some =
+    let e : get_or rs x no_range ≡ no_range = get_or_past rs x no_range past in
+    let l : low rs x ≡ 0 = ap (λ (r : Range). r.low) e in
+    let h : high rs x ≡ 0 = ap (λ (r : Range). r.high) e in
+    grind (arith, nat_tests)
+
 pub entry_before : (rs : List Range) (bs : List ℕ) (x n : ℕ) → Placed rs bs → length bs ≡ length rs → x < length rs → n ≡ get_or bs x n → n ≡ first rs x
 entry_before rs bs x n placed same lt e = e ∙ get_or_default bs x n 0 (omega arith) ∙ placed x lt
 

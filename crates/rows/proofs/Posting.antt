@@ -28,6 +28,9 @@ rows_items r = items_of (lists_of r.lists)
 pub rows_room : (r : Rows) → length (lists_of r.lists) < 1024 → few_rows (rows_of r) 1 ≡ true
 rows_room r h = le-leb _ _ (omega (arith, rows_length r))
 
+pub rows_full : (r : Rows) → 1024 ≤ length (lists_of r.lists) → few_rows (rows_of r) 1 ≡ false
+rows_full r h = lt-leb _ _ (omega (arith, rows_length r))
+
 pub items_room : (r : Rows) (n : ℕ) → items_in_lists (lists_of r.lists) + n ≤ 4096 → few_items (rows_of r) n ≡ true
 items_room r n h = le-leb _ _ (omega (arith, rows_items r))
 

@@ -1,7 +1,7 @@
 -- Names and numbers, read byte by byte. Assumes nothing.
-use Rattle.std.proofs.Common.{◌≡◌, ℕ, suc, ◌+◌, ◌-◌, ◌*◌, ◌^◌, ◌<◌, ◌≤◌, Bool, true, false, cond, leb, ltb, ◌&&◌, List, [], ◌∷◌, length, get_or, drop, Some, None, Option, refl, arith, pow-add, lit<}
+use Rattle.std.proofs.Common.{◌≡◌, ℕ, suc, ◌+◌, ◌-◌, ◌*◌, ◌^◌, ◌<◌, ◌≤◌, Bool, true, false, cond, leb, ltb, ◌&&◌, List, [], ◌∷◌, length, get_or, drop, Some, None, Option, refl, arith, pow-add, lit<, mul-le-mul_right}
 use Rattle.std.proofs.Math.Bool.{and-true}
-use Rattle.std.proofs.Math.Nat.{pow-le-pow_right}
+use Rattle.std.proofs.Math.Nat.{pow-le-pow_right, pow-suc}
 use Rattle.std.proofs.lemmas.List.{at_drop_more}
 use Rattle.std.proofs.lemmas.Bool.{and_right, and_parts, and_from, cond-true, cond-false, false≢true, le-leb, le-ltb, lt-ltb, leb-true}
 use Rattle.words.specs.Shapes.{is_letter, is_digit, all_in_name, is_name, all_digits, is_decimal, is_number, digits_after, number}
@@ -15,6 +15,15 @@ is_name_from (b ∷ bs) first short = rw (first, le-leb (length (b ∷ bs)) 16 s
 grows : (n : ℕ) (w : List ℕ) → n ≤ digits_after n w
 grows n [] = omega arith
 grows n (b ∷ bs) = omega (arith, grows (n * 10 + (b - 48)) bs)
+
+-- digits after n stand for at least n with as many zeros
+pub digits_after_least : (n : ℕ) (bs : List ℕ) → n * 10 ^ length bs ≤ digits_after n bs
+digits_after_least n [] = omega arith
+digits_after_least n (b ∷ bs) =
+    rw (pow-suc 10 (length bs)) (shifted (10 ^ length bs) (b - 48) _ (digits_after_least (n * 10 + (b - 48)) bs))
+  where
+    shifted : (x d r : ℕ) → (n * 10 + d) * x ≤ r → n * (x * 10) ≤ r
+    shifted x d r h = let least : n * 10 ≤ n * 10 + d = omega arith in omega (arith, mul-le-mul_right x least)
 
 pub grown : (w : List ℕ) (i n : ℕ) → i < length w → n * 10 + (get_or w i 0 - 48) ≤ digits_after n (drop i w)
 grown w i n within = rw (at_drop_more (digits_after n) w i 0 within) (grows _ (drop (i + 1) w))
