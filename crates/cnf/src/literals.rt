@@ -8,5 +8,5 @@ use order::literal::Literal;
 pub fn has(clause: &[Literal], l: Literal) -> bool
     ensures { result ≡ has clause.now l }
 {
-    clause.contains(&l)
+    clause.iter().any(|m| *m == l)
 }

@@ -1,7 +1,7 @@
 pub mod BitSteps
 pub mod Picking
+pub mod Ones
 pub mod Counting
 pub mod Ordering
 pub mod Failing
-pub mod Ranges
 pub mod ValueSteps

@@ -36,7 +36,7 @@ impl Shown<'_> {
     {
         let range = range_of(self.variables.ranges(), variable);
         let mut thresholds = u16::from(range.low()) + 1..u16::from(range.high());
-        thresholds.all(|t| !self.reaches(variable, t + 1) || self.reaches(variable, t))
+        thresholds.all(|t| self.reaches(variable, t) || !self.reaches(variable, t + 1))
     }
 
     /// The first variable whose bits are not in order.
@@ -51,10 +51,11 @@ impl Shown<'_> {
         ensures { result ≡ value (ranges_of self.now.variables.now) (bit_at self.now.bits.now) variable }
     {
         let range = range_of(self.variables.ranges(), variable);
-        let reached = (u16::from(range.low()) + 1..=u16::from(range.high()))
-            .filter(|t| self.reaches(variable, *t))
-            .count();
-        range.low() + reached as u8
+        let thresholds = u16::from(range.low()) + 1..u16::from(range.high()) + 1;
+        let reached: u8 = thresholds
+            .map(|t| u8::from(self.reaches(variable, t)))
+            .sum();
+        range.low() + reached
     }
 
     /// The value of each variable.

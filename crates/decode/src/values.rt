@@ -7,19 +7,18 @@ ghost use Rattle.promise.specs.Readings.{count_declared, picked};
 pub fn count_declared(declared: &[bool]) -> usize
     ensures { result ≡ count_declared declared.now }
 {
-    declared.iter().filter(|d| **d).count()
+    declared.iter().map(|d| usize::from(*d)).sum()
 }
 
 /// Puts the values of the declared variables, in order, at the start of the buffer, as far as it goes.
 pub fn put_declared(declared: &[bool], values: &[u8], buffer: &mut [u8])
     ensures { count_declared declared.now ≤ length buffer.old → buffer.new ≡ picked declared.now 0 (valued values.now) ++ drop (length (picked declared.now 0 (valued values.now))) buffer.old }
 {
-    let of_declared = declared
-        .iter()
-        .enumerate()
-        .filter(|(_, declared)| **declared);
-    // Kept as it is: `iter_mut().zip(..)` was tried and the proof did not close: no invariant can name what is lent there.
-    for (at, (x, _)) in (0..buffer.len()).zip(of_declared) {
-        buffer[at] = values.get(x).copied().unwrap_or(0);
+    let mut at = 0;
+    for (x, is_declared) in declared.iter().enumerate() {
+        if *is_declared && at < buffer.len() {
+            buffer[at] = values.get(x).copied().unwrap_or(0);
+            at += 1;
+        }
     }
 }

@@ -12,7 +12,6 @@ use kinds::reading;
 use order::bound::Bound;
 use order::range::Range;
 use order::visit::Visitor;
-use std::array;
 
 /// At least one of 1 to 64 bounds holds.
 pub struct Any;
@@ -78,10 +77,13 @@ impl Kind for Any {
 
     fn visit_clauses<V: Visitor>(items: &[Item], _ranges: &[Range], visitor: &mut V) {
         // Kept as it is: a rule of the project needs it: nothing is allocated per clause, so its bounds fill the front of an array.
-        let clause: [Bound; MOST] = array::from_fn(|k| {
-            bound_of(items.get(k).copied().unwrap_or(Item::Variable(0)))
-        });
-        visitor.visit(&clause[..items.len().min(MOST)]);
+        // `array::from_fn` was tried, and is slower: it makes all 64 bounds, however few the row has.
+        let first = &items[..items.len().min(MOST)];
+        let mut clause = [Bound::at_least(0, 0); MOST];
+        for (k, item) in first.iter().enumerate() {
+            clause[k] = bound_of(*item);
+        }
+        visitor.visit(&clause[..first.len()]);
     }
 
     fn tell_pairings<L: Listener>(_items: &[Item], _ranges: &[Range], _listener: &mut L) {}

@@ -149,7 +149,11 @@ impl<const DOWN: bool> Kind for Extreme<DOWN> {
     }
 
     fn met(items: &[Item], values: &[u8]) -> bool {
-        let [a, b, c] = reading::variables::<3>(items).map(|x| reading::value_of(values, x));
+        // Kept as it is: `map` over the three variables was tried, and is slower.
+        let [a, b, c] = reading::variables::<3>(items);
+        let a = reading::value_of(values, a);
+        let b = reading::value_of(values, b);
+        let c = reading::value_of(values, c);
         c == if DOWN { a.min(b) } else { a.max(b) }
     }
 

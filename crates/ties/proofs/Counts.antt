@@ -1,9 +1,12 @@
 -- Counting the bits that are their own root. Assumes nothing.
-use Rattle.std.proofs.Common.{◌≡◌, ℕ, zero, suc, ◌+◌, ◌<◌, ◌≤◌, Bool, true, false, cond, List, length, refl, ap, ◌∙◌, inl, inr, arith}
-use Rattle.std.proofs.lemmas.List.Sums.{length-filter, sum_by-cons}
-use Rattle.std.specs.List.{filter, count_by, range_with_len}
+use Rattle.std.proofs.Common.{◌≡◌, ℕ, zero, suc, ◌+◌, ◌<◌, ◌≤◌, Bool, true, false, cond, List, [], ◌∷◌, length, get_or, sym, refl, ap, ◌∙◌, inl, inr, arith}
+use Rattle.std.proofs.lemmas.List.{get_or_default}
+use Rattle.std.proofs.lemmas.List.Sums.{sum_by-cons}
+use Rattle.std.specs.List.{count_by, range_with_len, zip}
 use Rattle.std.proofs.lemmas.Bool.{cases_eq}
 use Rattle.order.specs.declared.literal.Literal.{Literal}
+use Rattle.order.specs.declared.literal.Literal.TheVariants.{False, Bit}
+use Rattle.order.specs.Literals.{same}
 use Rattle.ties.specs.Roots.{root_at, count_below, own, free, free_to}
 
 abbrev pub one_if : Bool → ℕ
@@ -33,17 +36,24 @@ free_less f g zero n some le was is other = absurd (omega arith)
 free_less f g (suc m) n some le was is other =
     count_less (λ k. own f (suc k)) (λ k. own g (suc k)) m n (omega arith) was is (λ k lt ne. other (suc k) (omega arith) (λ e. ne (omega arith)))
 
--- the numbers of a stretch that pass, and those before it
-count_stretch : (p : ℕ → Bool) (m n a : ℕ) → a ≡ suc m → count_by p (range_with_len a n) + count_below (λ k. p (suc k)) m ≡ count_below (λ k. p (suc k)) (m + n)
-count_stretch p m zero a e = let none : m ≡ m + 0 = omega arith in omega (arith, ap (count_below (λ k. p (suc k))) none)
-count_stretch p m (suc n) a e =
-    let head = sum_by-cons (λ k. one_if (p k)) a (range_with_len (a + 1) n) in
-    let here : one_if (p a) ≡ one_if (p (suc m)) = ap (λ k. one_if (p k)) e in
-    let rest = count_stretch p (suc m) n (a + 1) (omega arith) in
-    let more : suc m + n ≡ m + suc n = omega arith in
-    omega (arith, head, here, rest, ap (count_below (λ k. p (suc k))) more)
+-- whether a root beside the number of a bit is that bit
+abbrev pub is_bit : ℕ × Literal → Bool
+is_bit p = same p.1 (Bit p.0)
 
-pub free_counted : (rs : List Literal) → length (filter (own (root_at rs)) (range_with_len 1 (length rs))) ≡ free rs
+-- the roots of a stretch of bits that are those bits, and the free bits before it
+count_stretch : (f : ℕ → Literal) (ys : List Literal) (m a : ℕ) → a ≡ suc m → ((k : ℕ) → k < length ys → f (a + k) ≡ get_or ys k False) → count_by is_bit (zip (range_with_len a (length ys)) ys) + free_to f m ≡ free_to f (m + length ys)
+count_stretch f [] m a e roots = let none : m ≡ m + 0 = omega arith in omega (arith, ap (free_to f) none)
+count_stretch f (y ∷ ys) m a e roots =
+    let head = sum_by-cons (λ p. one_if (is_bit p)) (a, y) (zip (range_with_len (a + 1) (length ys)) ys) in
+    let first : a + 0 ≡ suc m = omega (arith, e) in
+    let root : y ≡ f (suc m) = sym (roots 0 (omega arith)) ∙ ap f first in
+    let here : one_if (is_bit (a, y)) ≡ one_if (own f (suc m)) = ap (λ l. one_if (same l (Bit a))) root ∙ ap (λ n. one_if (same (f (suc m)) (Bit n))) e in
+    let rest = count_stretch f ys (suc m) (a + 1) (omega (arith, e)) (λ k lt. (let next : a + 1 + k ≡ a + suc k = omega arith in ap f next ∙ roots (suc k) (omega (arith, lt)))) in
+    let more : suc m + length ys ≡ m + suc (length ys) = omega arith in
+    omega (arith, head, here, rest, ap (free_to f) more)
+
+pub free_counted : (rs : List Literal) → count_by is_bit (zip (range_with_len 1 (length rs)) rs) ≡ free rs
 free_counted rs =
     let all : 0 + length rs ≡ length rs = omega arith in
-    omega (arith, length-filter (own (root_at rs)) (range_with_len 1 (length rs)), count_stretch (own (root_at rs)) 0 (length rs) 1 refl, ap (free_to (root_at rs)) all)
+    let roots : (k : ℕ) → k < length rs → root_at rs (1 + k) ≡ get_or rs k False = λ k lt. (let next : 1 + k ≡ suc k = omega arith in ap (root_at rs) next ∙ get_or_default rs k (Bit (suc k)) False lt) in
+    omega (arith, count_stretch (root_at rs) rs 0 1 refl roots, ap (free_to (root_at rs)) all)

@@ -6,7 +6,7 @@ use Rattle.std.proofs.lemmas.Bool.{cases_lt, and_parts, ltb-true, leb-true}
 use Rattle.std.proofs.lemmas.Bool.Decides.{nat_tests}
 use Rattle.order.specs.declared.literal.Literal.{Literal}
 use Rattle.order.specs.declared.literal.Literal.TheVariants.{False, True, Bit, Not}
-use Rattle.order.specs.Literals.{opposite}
+use Rattle.order.specs.Literals.{opposite, same}
 use Rattle.ties.specs.Relations.{Relation, IsTies, Within}
 use Rattle.ties.specs.Roots.{rank, root_at, root_by, tied, own, free, there, Lower, Named, Fixed, Merged, Joins}
 use Rattle.ties.specs.Moves.{replaced, Distinct, Move}
@@ -54,6 +54,15 @@ module _ (old new : Literal) where
 
   replaced_cases : (x : Literal) → ((x ≡ old) × (replaced old new x ≡ new)) ⊎ (((x ≡ opposite old) × (replaced old new x ≡ opposite new)) ⊎ (replaced old new x ≡ x))
   replaced_cases x = grind (arith, same_tells, opposite_apart)
+
+  pub replaced_alike : (x : Literal) → same x old ≡ true → new ≡ replaced old new x
+  replaced_alike x h = grind arith
+
+  pub replaced_opposed : (x old' new' : Literal) → same x old ≡ false → same x old' ≡ true → old' ≡ opposite old → new' ≡ opposite new → new' ≡ replaced old new x
+  replaced_opposed x old' new' h h' o n = grind arith
+
+  pub replaced_apart : (x old' : Literal) → same x old ≡ false → same x old' ≡ false → old' ≡ opposite old → x ≡ replaced old new x
+  replaced_apart x old' h h' o = grind arith
 
 -- a root's bit is its own root
 root_own : (rs : List Literal) (l : Literal) → root_by (root_at rs) l ≡ l → root_at rs (number l) ≡ Bit (number l)

@@ -52,24 +52,17 @@ pub(crate) fn meet(x: Literal, y: Literal) -> Joined
     Joined::Made
 }
 
-// `l`, with `new` for `old` and the opposite of `new` for that of `old`.
-fn replaced(l: Literal, old: Literal, new: Literal) -> Literal
-    ensures { result ≡ replaced old new l }
-{
-    if l == old {
-        new
-    } else if l == old.opposite() {
-        new.opposite()
-    } else {
-        l
-    }
-}
-
 /// Puts `new` in place of `old`, and the opposite of `new` in place of the opposite of `old`.
 pub(crate) fn replace_all(roots: &mut [Literal], old: Literal, new: Literal)
     ensures { roots.new ≡ map (replaced old new) roots.old }
 {
+    let old_opposite = old.opposite();
+    let new_opposite = new.opposite();
     for root in roots {
-        *root = replaced(*root, old, new);
+        if *root == old {
+            *root = new;
+        } else if *root == old_opposite {
+            *root = new_opposite;
+        }
     }
 }

@@ -48,10 +48,13 @@ drop_take m k l le = let e : k + (m - k) ≡ m = omega arith in ap (λ j. drop k
 pub no_word : (text : List ℕ) (rest : Part) → length (bytes text rest) ≤ blanks (bytes text rest) → words (bytes text rest) ≡ []
 no_word text rest all = words_after_blanks (bytes text rest) ∙ ap words (drop_all _ _ all)
 
+pub part_size : (text : List ℕ) (rest : Part) → length (bytes text rest) ≡ min (rest.end - rest.start) (length text - rest.start)
+part_size text rest = length-take (rest.end - rest.start) (drop rest.start text) ∙ ap (min (rest.end - rest.start)) (length-drop rest.start text)
+
 -- the word after k blanks ends at the first blank from there on
 module _ (text : List ℕ) (rest : Part) (k n : ℕ) (skips : k ≡ blanks (bytes text rest)) (some : k < length (bytes text rest)) (ends : n ≡ before 32 (drop k (bytes text rest))) where
   size : length (bytes text rest) ≡ min (rest.end - rest.start) (length text - rest.start)
-  size = length-take (rest.end - rest.start) (drop rest.start text) ∙ ap (min (rest.end - rest.start)) (length-drop rest.start text)
+  size = part_size text rest
 
   within : k + n ≤ length (bytes text rest)
   within = omega (arith, before_within 32 (drop k (bytes text rest)), length-drop k (bytes text rest))

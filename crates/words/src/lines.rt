@@ -34,7 +34,7 @@ pub fn next_word(text: &[u8], rest: Part) -> Option<Part>
 {
     let line = rest.of(text);
     let blanks = line.iter().position(|b| *b != b' ')?;
-    let start = rest.start + blanks;
+    let start = rest.end.min(text.len()) - (line.len() - blanks);
     Some(Part {
         start,
         end: start + length_to(b' ', &line[blanks..]),

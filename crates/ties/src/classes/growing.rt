@@ -35,7 +35,7 @@ impl Clone for Ties {
 
     fn clone(&self) -> Result<Ties, AllocError> {
         Ok(Ties {
-            roots: self.roots.clone()?,
+            roots: Vec::from_slice(*self.roots.allocator(), &self.roots)?,
         })
     }
 }

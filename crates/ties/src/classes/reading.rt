@@ -1,7 +1,7 @@
 //! How many bits there are, and which literals are tied.
 ghost use Rattle.std.specs.Prelude.{◌≡◌, ◌≤◌, true, length};
 ghost use Rattle.ties.specs.Relations.{IsTies, Consistent};
-ghost use Rattle.ties.specs.Roots.{rank, root_at, root_by, tied, own, free};
+ghost use Rattle.ties.specs.Roots.{rank, root_at, root_by, tied, free};
 ghost use Rattle.ties.specs.Views.{roots_of};
 
 use super::Ties;
@@ -20,15 +20,9 @@ impl Ties {
         ensures { result ≡ free (roots_of self.now) }
     {
         (1..self.roots.len() as u16 + 1)
-            .filter(|n| self.is_free(*n))
-            .count()
-    }
-
-    // Whether bit `n` is its own root.
-    fn is_free(&self, n: u16) -> bool
-        ensures { result ≡ own (root_at (roots_of self.now)) n }
-    {
-        self.bit_root(n) == Literal::Bit(n)
+            .zip(&self.roots)
+            .map(|(n, root)| usize::from(*root == Literal::Bit(n)))
+            .sum()
     }
 
     // The root of bit `n`: the bit itself where it is not there.

@@ -2,18 +2,15 @@ use Rattle.std.proofs.Common.{length, sym, ◌∙◌, arith, ap, Some}
 use Rattle.std.proofs.lemmas.List.{at_drop_all}
 use Rattle.std.proofs.lemmas.Bool.{eqb-false}
 use Rattle.words.specs.Shapes.{all_digits, digits_after}
+use Rattle.words.proofs.Places.{found_none}
 use Rattle.words.proofs.Shaping.{grown, value_from, value_large}
 use Rattle.words.proofs.shapes.decimal.Goals as goal
-
-pub returns-in_err-checked_mul : goal.returns-in_err-checked_mul
-returns-in_err-checked_mul c =
-    let more = grown c.args.word.now c.loop-b.b-index c.loop-b.value c.loop-b-test.true in
-    c.from_residual.ensures ∙ sym (value_large c.args.word.now (omega (arith, c.in_err-checked_mul.ensures)))
 
 pub returns-in_err-value : goal.returns-in_err-value
 returns-in_err-value c =
     let more = grown c.args.word.now c.loop-b.b-index c.loop-b.value c.loop-b-test.true in
-    c.from_residual-in_err-value.ensures ∙ sym (value_large c.args.word.now (omega (arith, c.in_err-value.ensures, c.in_ok-checked_mul.ensures)))
+    let large = found_none _ _ (sym c.with_digit.ensures ∙ c.in_err-value.was) in
+    c.from_residual.ensures ∙ sym (value_large c.args.word.now (omega (arith, large)))
 
 pub returns : goal.returns
 returns c =
